@@ -1,0 +1,17 @@
+pub mod Members
+pub mod Sets
+pub mod Pack
+pub mod Back
+pub mod Except
+pub mod Chunk
+pub mod Containers
+pub mod Rise
+pub mod Accept
+pub mod Cuts
+pub mod Values
+pub mod Written
+pub mod Bodies
+pub mod Round
+pub mod Length
+pub mod Plans
+pub mod Uses

@@ -1,0 +1,4 @@
+pub mod Tally
+pub mod Window
+pub mod Parts
+pub mod Reading
