@@ -15,3 +15,4 @@ pub mod Round
 pub mod Length
 pub mod Plans
 pub mod Uses
+pub mod Output

@@ -1,0 +1,91 @@
+// The choice of a chunk's width.
+ghost use mathlib.Core.Path.{_≡_};
+ghost use mathlib.Core.List.{map};
+ghost use Prim.Native.Nat.{_+_, _-_, _*_, _≤_, _<_};
+ghost use lib.ListN.{length, take, drop};
+ghost use Rattle.bitmap_spec.specs.Form.{width, least, largest, wider, cost, cheapest};
+ghost use Rattle.bitmap_laws.proofs.Length.{sizeAt};
+
+// The fewest bits that hold v.
+pub fn width_of(v: u8) -> u32
+    ensures { λ r. ⌜ (r ≡ width v) × (r ≤ 8) ⌝ }
+{
+    8 - u8::leading_zeros(v)
+}
+
+// The least of the values.
+pub fn least_of(ds: &[u8]) -> u8
+    requires { ⌜ 0 < length (now ds) ⌝ }
+    ensures { λ r. ⌜ r ≡ least (now (ds .entry)) ⌝ }
+{
+    let mut m = ds[0];
+    let mut i: usize = 1;
+    while i < ds.len() {
+        let d = ds[i];
+        if d < m {
+            m = d;
+        }
+        i += 1;
+    }
+    m
+}
+
+// The largest width.
+pub fn widest(vs: &[u8]) -> u32
+    ensures { λ r. ⌜ (r ≡ largest (map width (now (vs .entry)))) × (r ≤ 8) ⌝ }
+{
+    let mut w: u32 = 0;
+    let mut i: usize = 0;
+    while i < vs.len() {
+        let x = width_of(vs[i]);
+        if w < x {
+            w = x;
+        }
+        i += 1;
+    }
+    w
+}
+
+// How many values are wider than b.
+pub fn wider_count(vs: &[u8], b: u32) -> usize
+    ensures { λ r. ⌜ (r ≡ length (wider b (now (vs .entry)))) × (r ≤ length (now (vs .entry))) ⌝ }
+{
+    let mut e: usize = 0;
+    let mut i: usize = 0;
+    while i < vs.len() {
+        let x = width_of(vs[i]);
+        if b < x {
+            e += 1;
+        }
+        i += 1;
+    }
+    e
+}
+
+// The cost of the width b, where w is the largest width.
+pub fn cost_of(vs: &[u8], w: u32, b: u32) -> usize
+    requires { ⌜ (length (now vs) ≤ 256) × (w ≡ largest (map width (now vs))) × (w ≤ 8) × (b ≤ w) ⌝ }
+    ensures { λ r. ⌜ r ≡ cost (now (vs .entry)) b ⌝ }
+{
+    let e = wider_count(vs, b);
+    32 * (b as usize) + e + (e * ((w - b) as usize) + 7) / 8
+}
+
+// The width of least cost, the smaller on a tie.
+pub fn cheapest_of(vs: &[u8], w: u32) -> u32
+    requires { ⌜ (length (now vs) ≤ 256) × (w ≡ largest (map width (now vs))) × (w ≤ 8) ⌝ }
+    ensures { λ r. ⌜ (r ≡ cheapest (now (vs .entry)) w) × (r ≤ w) ⌝ }
+{
+    let mut best: u32 = 0;
+    let mut least = cost_of(vs, w, 0);
+    let mut b: u32 = 0;
+    while b < w {
+        b += 1;
+        let c = cost_of(vs, w, b);
+        if c < least {
+            best = b;
+            least = c;
+        }
+    }
+    best
+}
