@@ -22,22 +22,9 @@ use Rattle.bitmap_spec.proofs.Window.{shifted-one}
 use Rattle.bitmap_spec.specs.Bits.{valueBit, packed, packValues, bytesOf}
 use Rattle.bitmap_spec.specs.Output.{written}
 use Rattle.bitmap_laws.proofs.Back.{table-same}
+use Rattle.bitmap_laws.proofs.Packed.{packed-lt, packed-byte, packed-cat}
 use Rattle.bitmap_laws.proofs.Pack.{valueBit-lt, valueBit-at, packed-same, packed-digits}
 use Rattle.bitmap_laws.proofs.Output.{written-none, written-more, length-written}
-
-pub packed-lt : (f : ℕ → ℕ) (p w : ℕ) → ((i : ℕ) → f i < 2) → packed f p w < 2 ^ w
-unfolding packed
-packed-lt f p zero h = omega arith
-packed-lt f p (suc w) h = rw (pow-suc 2 w) (omega (arith, packed-lt f p w h, h (p + w)))
-
-pub packed-byte : (f : ℕ → ℕ) (p w : ℕ) → ((i : ℕ) → f i < 2) → w ≤ 8 → packed f p w < 256
-packed-byte f p w h l = lt-of-lt-of-le (packed-lt f p w h) (pow-mono {i = w} {j = 8} l)
-
--- the bits of one run, and then those of the next
-pub packed-cat : (f : ℕ → ℕ) (p a b : ℕ) → packed f p (a + b) ≡ packed f p a * 2 ^ b + packed f (p + a) b
-unfolding packed
-packed-cat f p a zero = rw (add-zero a) (omega arith)
-packed-cat f p a (suc b) = rw (add-suc a b, packed-cat f p a b, add-assoc p a b, pow-suc 2 b) (omega (arith, mul-assoc (packed f p a) (2 ^ b) 2))
 
 packed-zero : (f : ℕ → ℕ) (p w : ℕ) → ((j : ℕ) → j < w → f (p + j) ≡ 0) → packed f p w ≡ 0
 unfolding packed

@@ -1,6 +1,7 @@
 pub mod Members
 pub mod Sets
 pub mod Pack
+pub mod Packed
 pub mod Back
 pub mod Except
 pub mod Chunk
