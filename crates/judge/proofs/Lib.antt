@@ -1,0 +1,3 @@
+pub mod Chunking
+pub mod Walking
+pub mod Judging
