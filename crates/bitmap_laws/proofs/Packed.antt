@@ -62,14 +62,16 @@ packed-top f p w t x b e l lo hi =
     record {
       before = packed-none f p (w - 1 - t) a;
       here = v;
-      rest = rw (y, z, o, v) (omega arith)
+      rest = rw (y, z, o, v) (omega arith);
     }
   where
     one-more : (t : ℕ) → suc t ≡ 1 + t
     one-more t = omega arith
+
     no-high : (a m r : ℕ) → a * m + r < m → a ≡ 0
     no-high zero m r h = refl
     no-high (suc a) m r h = absurd (omega (arith, native.Mathlib.Nat.suc-mul a m))
+
     high-one : (d m r : ℕ) → d < 2 → r < m → m ≤ d * m + r → d ≡ 1
     high-one zero m r h g k = absurd (omega (arith, zero-mul m))
     high-one (suc zero) m r h g k = refl
