@@ -3,20 +3,40 @@ ghost use mathlib.Core.Path.{_≡_};
 ghost use Prim.Native.Nat.{_+_, _-_, _*_, _/_, _%_, _^_, _≤_, _<_};
 ghost use lib.ListN.{length};
 ghost use Rattle.bitmap_spec.specs.Judge.{dense};
-ghost use Rattle.bitmap_spec.specs.Bits.{value};
+ghost use Rattle.bitmap_spec.specs.Ask.{below};
+ghost use Rattle.bitmap_spec.specs.Bits.{bit, value};
+ghost use Rattle.bitmap_spec.proofs.Tally.{tally};
+
+// How many bits are set in the n bytes from `at` on.
+fn ones_of(s: &[u8], at: usize, n: usize) -> u32
+    requires { ⌜ (n ≤ 32) × (at + n ≤ length (now s)) ⌝ }
+    ensures { λ r. ⌜ (r ≡ tally (bit (now (s .entry))) (at * 8) (n * 8)) × (r ≤ n * 8) ⌝ }
+{
+    let mut ones: u32 = 0;
+    let mut i: usize = 0;
+    while i < n {
+        ones += u8::count_ones(s[at + i]);
+        i += 1;
+    }
+    ones
+}
 
 // How many members the dense container at byte `at` has, counted from the bits.
 pub fn dense_count(s: &[u8], at: usize) -> u32
     requires { ⌜ at + 32 ≤ length (now s) ⌝ }
     ensures { λ r. ⌜ r ≡ length (dense (now (s .entry)) at) ⌝ }
 {
-    let mut n: u32 = 0;
-    let mut i: usize = 0;
-    while i < 32 {
-        n += u8::count_ones(s[at + i]);
-        i += 1;
-    }
-    n
+    ones_of(s, at, 32)
+}
+
+// How many members of the dense container at byte `at` lie below j: the set bits before bit j.
+pub fn dense_below(s: &[u8], at: usize, j: usize) -> u32
+    requires { ⌜ (at + 32 ≤ length (now s)) × (j < 256) ⌝ }
+    ensures { λ r. ⌜ r ≡ below j (dense (now (s .entry)) at) ⌝ }
+{
+    let whole = ones_of(s, at, j / 8);
+    let last = s[at + j / 8] as u32;
+    whole + u32::count_ones(last >> (8 - j % 8))
 }
 
 // The w bits that start r bits below the top of the sixteen of hi and lo.

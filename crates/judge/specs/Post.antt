@@ -23,6 +23,10 @@ pub record View (s d : List ℕ) (n start : ℕ) (l : List ℕ) : Type 0 where
   pub sound : containersOk s start (take n d) ≡ true
   pub members : membersFrom s 0 start (take n d) ≡ l
 
+-- the set that the first n descriptors of d say of the bytes of s from start on
+unfoldable pub viewed : List ℕ → List ℕ → ℕ → ℕ → List ℕ
+viewed s d n start = membersFrom s 0 start (take n d)
+
 -- the judgement's answer: the definition's refusal; or its set, the set's length, and a view of it
 unfoldable pub Judges : List ℕ → List ℕ → Judged → Type 0
 Judges s d (judging.Refused n) = judge s ≡ refused n

@@ -85,7 +85,7 @@ pub fn container_at(s: &[u8], at: usize, d: u8) -> Container
 }
 
 // The bytes that the first n descriptors ask for.
-fn sizes(d: &[u8], n: usize) -> usize
+pub fn sizes(d: &[u8], n: usize) -> usize
     requires { ⌜ (n ≤ 8192) × (n ≤ length (now d)) ⌝ }
     ensures { λ r. ⌜ (r ≡ sum sizeOf (take n (now (d .entry)))) × (r ≤ 262144) ⌝ }
 {
