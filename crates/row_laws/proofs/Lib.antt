@@ -1,0 +1,6 @@
+pub mod Varints
+pub mod Schemas
+pub mod Rows
+pub mod Bytes
+pub mod TwosComplement
+pub mod Patterns
