@@ -4,3 +4,4 @@ pub mod Rows
 pub mod Bytes
 pub mod TwosComplement
 pub mod Patterns
+pub mod Read

@@ -1,7 +1,7 @@
 -- "Schema bytes": the columns, or the refusal 20.
 use Prim.Native.Nat.{ℕ, zero, suc, _+_}
 use mathlib.Core.List.{List, [], _∷_, _++_}
-use lib.ListN.{length, getD, drop, replicate}
+use lib.ListN.{length, getD, take, drop, replicate}
 use lib.Dec.{leb, ltb, eqb}
 use mathlib.Core.Bool.{true, false}
 use Rattle.common.specs.Outcome.{pick, both, Outcome, refused, found, then, need}
@@ -118,3 +118,7 @@ blanks = replicate 64 blankColumn
 unfoldable pub held : Outcome (List Column) → SchemaRead
 held (refused n) = record { refused = n; schema = record { columns = blanks; count = 0 } }
 held (found cols) = record { refused = 0; schema = record { columns = cols ++ drop (length cols) blanks; count = length cols } }
+
+-- the columns of a schema that the code holds
+abbrev pub columnsOf : Schema → List Column
+columnsOf x = take (x .count) (x .columns)
