@@ -5,3 +5,4 @@ pub mod Bytes
 pub mod TwosComplement
 pub mod Patterns
 pub mod Read
+pub mod Accepted

@@ -1,7 +1,9 @@
 -- What each case of an answer is: this paper's number and values.
-use Prim.Native.Nat.{ℕ}
+use Prim.Native.Nat.{ℕ, _+_}
+use mathlib.Core.Bool.{Bool, true}
 use mathlib.Core.List.{List, []}
 use lib.ListN.{take, drop}
+use lib.Dec.{leb}
 use lib.IntN.{ℤ, pos}
 use lib.Ieee.{binary32, binary64, toBits}
 use Rattle.common.specs.Outcome.{one, Outcome, refused, found}
@@ -65,6 +67,18 @@ partOf (found (field.NanF32 n)) s = []
 partOf (found (field.NanF64 n)) s = []
 partOf (found (field.Time z n)) s = []
 partOf (refused n) s = []
+
+-- a place lies within n bytes; what is no place lies anywhere
+unfoldable pub inside : ℕ → Field → Bool
+inside n (field.Place a l) = leb (a + l) n
+inside n field.Null = true
+inside n (field.Bool b) = true
+inside n (field.Whole z) = true
+inside n (field.F32 x) = true
+inside n (field.F64 x) = true
+inside n (field.NanF32 m) = true
+inside n (field.NanF64 m) = true
+inside n (field.Time z m) = true
 
 -- a type's id, its length or precision (0 where it has none), and its scale (0 where it has none)
 pub record TypeShown : Type 0 where

@@ -3,7 +3,9 @@ ghost use mathlib.Core.Path.{_≡_};
 ghost use Prim.Native.Nat.{_≤_, _<_, _+_, _*_, _^_, _/_};
 ghost use lib.ListN.{length};
 ghost use Rattle.row_spec.specs.Value.{booleanAt, wholeAt, sizedOf, nanosOf, countAt, storageOf, storedAt, valueAt};
+ghost use mathlib.Core.Bool.{true};
 ghost use Rattle.row_spec.specs.Block.{fieldAt};
+ghost use Rattle.row_spec.specs.Answer.{after, fieldOutcome, inside, partOf};
 use numbers::float32;
 use numbers::float64;
 use numbers::has;
@@ -14,6 +16,7 @@ use numbers::word;
 use row_spec::Column;
 use row_spec::ColumnType;
 use row_spec::Field;
+use row_spec::FieldAnswer;
 use row_spec::Storage;
 use row_spec::Value;
 use row_spec::Varint;
@@ -225,4 +228,25 @@ pub fn field_at(s: &[u8], base: usize, i: usize, c: Column, at: usize) -> Value
     }
     let t = c.ty;
     value_at(false, s, at, t)
+}
+
+// The part of s that an answer names as a place; any other answer has an empty part.
+pub fn part<'a>(s: &'a [u8], answer: FieldAnswer) -> &'a [u8]
+    requires { ⌜ after (fieldOutcome answer) (inside (length (now s))) true ≡ true ⌝ }
+    ensures { λ r. ⌜ now r ≡ partOf (fieldOutcome answer) (now (s .entry)) ⌝ }
+{
+    match answer {
+        FieldAnswer::Refused(_) => &s[..0],
+        FieldAnswer::Field(f) => match f {
+            Field::Place { start, len } => &s[start..start + len],
+            Field::Null => &s[..0],
+            Field::Bool(_) => &s[..0],
+            Field::Whole(_) => &s[..0],
+            Field::F32(_) => &s[..0],
+            Field::F64(_) => &s[..0],
+            Field::NanF32(_) => &s[..0],
+            Field::NanF64(_) => &s[..0],
+            Field::Time { count: _, nanos: _ } => &s[..0],
+        },
+    }
 }

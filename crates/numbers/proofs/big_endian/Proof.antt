@@ -1,3 +1,4 @@
+-- The loop keeps v as the big endian number of the bytes read so far, below 256 to their number: no sum wraps. Assumes nothing.
 use mathlib.Core.Path.{_≡_, refl}
 use Prim.Native.Nat.{_-_, _^_, _≤_, _<_}
 use Rattle.common.specs.Bytes.{bigAt}

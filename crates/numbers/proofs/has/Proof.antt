@@ -1,3 +1,4 @@
+-- The test is moved over to the difference, which does not wrap. Assumes nothing.
 use mathlib.Core.Path.{sym}
 use Prim.Native.Nat.{_+_}
 use borrow.Author.Tests.{lt-leb}

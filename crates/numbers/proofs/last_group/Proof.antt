@@ -1,3 +1,4 @@
+-- By the tests, in the order of the definition; the weight is at most 128 ^ 4, so nothing wraps. Assumes nothing.
 use mathlib.Core.Path.{sym}
 use native.Mathlib.Omega.{arith}
 use borrow.Author.Needs.{needs}

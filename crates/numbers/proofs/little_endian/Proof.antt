@@ -1,3 +1,4 @@
+-- The loop goes down from the last byte and keeps v as the little endian number of the bytes behind j: no sum wraps. Assumes nothing.
 use mathlib.Core.Path.{_≡_, ap, subst, _∙_}
 use Prim.Native.Nat.{ℕ, _+_, _-_, _*_, _^_, _≤_, _<_}
 use native.Mathlib.Nat.{add-zero, sub-zero, sub-self}

@@ -1,3 +1,4 @@
+-- The shift and the remainder are the definition. Assumes nothing.
 use mathlib.Core.Path.{refl}
 use Rattle.common.specs.Bytes.{lowBit}
 use borrow.Author.Needs.{needs}

@@ -1,3 +1,4 @@
+-- Below half the number is itself; from half on -1 - m is computed, which no width overflows. Assumes nothing.
 use mathlib.Core.Path.{sym, ap, subst, _∙_}
 use Prim.Native.Nat.{_-_}
 use lib.IntN.{negsuc}

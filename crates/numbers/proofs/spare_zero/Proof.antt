@@ -1,3 +1,4 @@
+-- With no spare bit nothing is looked at; else the byte that holds them is shifted. Assumes nothing.
 use borrow.Author.Tests.{eq-eqb, ne-eqb}
 use Rattle.common.specs.Bytes.{lowSpareZero, ceil8}
 use native.Mathlib.Omega.{arith}

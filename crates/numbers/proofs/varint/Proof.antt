@@ -1,3 +1,4 @@
+-- The rest of the groups is the varint of the whole; the weight is 128 to the groups read. Assumes nothing.
 use native.Mathlib.Nat.{mul-le-mul-right}
 use borrow.Author.Needs.{needs}
 use mathlib.Core.Path.{_≡_, refl, sym, _∙_}

@@ -1,3 +1,4 @@
+-- By the byte order. Assumes nothing.
 use Rattle.row_spec.specs.Value.{wordAt}
 use borrow.Author.Needs.{needs}
 use Rattle.numbers.proofs.word.Statement.{statement}

@@ -1,3 +1,4 @@
+-- A refusal of the read is the definition's; else its count is the length of the columns. Assumes nothing.
 use Rattle.common.specs.Outcome.{found}
 use Rattle.row_spec.specs.Schema.{columnCount}
 use Rattle.row_laws.proofs.Read.{read-refused, read-found}

@@ -1,3 +1,4 @@
+-- A refusal of the read is the definition's; else the struct holds the columns in order. Assumes nothing.
 use borrow.Author.Tests.{lt-ltb, le-ltb}
 use lib.Seq.{getD-take}
 use Rattle.common.specs.Outcome.{found, need}

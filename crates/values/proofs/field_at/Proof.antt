@@ -1,3 +1,4 @@
+-- By the null bit, then by the mark of the column. Assumes nothing.
 use borrow.Author.Tests.{eq-eqb, ne-eqb}
 use Rattle.row_spec.specs.Block.{fieldAt}
 use borrow.Author.Needs.{needs}

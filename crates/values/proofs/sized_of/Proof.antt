@@ -1,3 +1,4 @@
+-- By what the length was read as, then room, then the least length. Assumes nothing.
 use mathlib.Core.Path.{sym, _∙_}
 use Prim.Native.Nat.{_+_}
 use borrow.Author.Tests.{le-leb, lt-leb, leb-true}

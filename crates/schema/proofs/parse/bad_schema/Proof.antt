@@ -1,3 +1,4 @@
+-- The struct of a refusal. Assumes nothing.
 use Rattle.row_laws.proofs.Schemas.{held-refused}
 use borrow.Author.Needs.{needs}
 use Rattle.schema.proofs.parse.bad_schema.Statement.{statement}

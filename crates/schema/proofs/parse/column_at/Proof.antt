@@ -1,3 +1,4 @@
+-- Both bytes are there, the second is 0 or 1, and the type decides. Assumes nothing.
 use Prim.Native.Nat.{_+_}
 use borrow.Author.Tests.{le-leb, lt-leb}
 use Rattle.row_spec.specs.Schema.{columnAt}

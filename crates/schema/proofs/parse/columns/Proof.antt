@@ -1,3 +1,4 @@
+-- The columns read so far stand first in the array, and the rest of the columns gives the whole. Assumes nothing.
 use Prim.Native.Nat.{_-_, _≤_, _<_}
 use lib.ListN.{length, take, drop, length-set}
 use mathlib.Core.List.{[]}

@@ -1,3 +1,4 @@
+-- By what the precision was read as, then its bounds; the scale is a number up to the precision. Assumes nothing.
 use borrow.Author.Tests.{le-leb, lt-leb}
 use Rattle.row_spec.specs.Schema.{decimal}
 use borrow.Author.Needs.{needs}

@@ -1,3 +1,4 @@
+-- By what the number was read as, then its bound. Assumes nothing.
 use borrow.Author.Tests.{le-leb, lt-leb}
 use Rattle.row_spec.specs.Schema.{numbered}
 use borrow.Author.Needs.{needs}

@@ -1,3 +1,4 @@
+-- By what the count was read as, then its bounds. Assumes nothing.
 use borrow.Author.Tests.{le-leb, lt-leb}
 use Rattle.common.specs.Outcome.{need}
 use Rattle.row_spec.specs.Schema.{schema}

@@ -1,3 +1,4 @@
+-- Id by id; an id past the list has no type. Assumes nothing.
 use Rattle.row_laws.proofs.Schemas.{type-over, up, least}
 use Rattle.row_spec.specs.Schema.{typeAt, types}
 use mathlib.Core.Path.{sym, _∙_}

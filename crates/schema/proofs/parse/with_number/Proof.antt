@@ -1,3 +1,4 @@
+-- Case by case. Assumes nothing.
 use borrow.Author.Needs.{needs}
 use Rattle.schema.proofs.parse.with_number.Statement.{statement}
 use Rattle.schema.proofs.parse.with_number.Tie as tie
