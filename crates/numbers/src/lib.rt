@@ -1,6 +1,6 @@
 // Numbers in bytes: either byte order at any width, two's complement, float patterns, varints, bits from the low end. Inner: no entry point.
 ghost use mathlib.Core.Path.{_≡_};
-ghost use Prim.Native.Nat.{_≤_, _<_, _+_, _*_, _^_, _/_};
+ghost use Prim.Native.Nat.{_≤_, _<_, _+_, _*_, _^_, _/_, _%_};
 ghost use lib.ListN.{length};
 ghost use lib.Dec.{leb};
 ghost use Rattle.common.specs.Bytes.{littleAt, bigAt, signedOf, ceil8, lowBit, lowSpareZero};
@@ -139,13 +139,20 @@ pub fn varint(s: &[u8], at: usize) -> Varint
     Varint::IllFormed
 }
 
+// How far bit i is from the low end of its byte.
+fn shift(i: usize) -> u8
+    ensures { λ r. ⌜ r ≡ i % 8 ⌝ }
+{
+    (i % 8) as u8
+}
+
 // Bit i of the bits from byte `at` on, from the low end of each byte.
 pub fn low_bit(s: &[u8], at: usize, i: usize) -> u8
     requires { ⌜ at + i / 8 < length (now s) ⌝ }
     ensures { λ r. ⌜ r ≡ lowBit (now (s .entry)) at i ⌝ }
 {
     let b = s[at + i / 8];
-    (b >> ((i % 8) as u8)) % 2
+    (b >> shift(i)) % 2
 }
 
 // Whether the bits that fill n bits up to a byte are 0.

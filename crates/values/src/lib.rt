@@ -4,6 +4,7 @@ ghost use Prim.Native.Nat.{_≤_, _<_, _+_, _*_, _^_, _/_};
 ghost use lib.ListN.{length};
 ghost use Rattle.row_spec.specs.Value.{booleanAt, wholeAt, sizedOf, nanosOf, countAt, storageOf, storedAt, valueAt};
 ghost use mathlib.Core.Bool.{true};
+ghost use Rattle.common.specs.Outcome.{pick};
 ghost use Rattle.row_spec.specs.Block.{fieldAt};
 ghost use Rattle.row_spec.specs.Answer.{after, fieldOutcome, inside, partOf};
 use numbers::float32;
@@ -69,6 +70,13 @@ fn double_at(big: bool, s: &[u8], at: usize) -> Value
     Value::CutShort
 }
 
+// The place of len bytes that start at `start`.
+fn place(start: usize, len: usize) -> Field
+    ensures { λ r. ⌜ r ≡ Field.Place start len ⌝ }
+{
+    Field::Place { start, len }
+}
+
 // Bytes whose length was read as r, at least so many.
 fn sized_of(s: &[u8], least: u32, r: Varint) -> Value
     ensures { λ v. ⌜ v ≡ sizedOf (now (s .entry)) least r ⌝ }
@@ -80,7 +88,7 @@ fn sized_of(s: &[u8], least: u32, r: Varint) -> Value
             let len = n as usize;
             if has(s, next, len) {
                 if least <= n {
-                    return Value::Read(Field::Place { start: next, len }, next + len);
+                    return Value::Read(place(next, len), next + len);
                 }
                 return Value::Bad;
             }
@@ -215,16 +223,23 @@ pub fn value_at(big: bool, s: &[u8], at: usize, t: ColumnType) -> Value
     stored_at(big, s, at, storage_of(big, t))
 }
 
+// A null: bad in a NOT NULL column.
+fn null_at(nullable: bool, at: usize) -> Value
+    ensures { λ r. ⌜ r ≡ pick nullable (Value.Read Field.Null at) Value.Bad ⌝ }
+{
+    if nullable {
+        return Value::Read(Field::Null, at);
+    }
+    Value::Bad
+}
+
 // Field i of the row whose bitmap starts at base; its bytes, if it has any, start at `at`.
 pub fn field_at(s: &[u8], base: usize, i: usize, c: Column, at: usize) -> Value
     requires { ⌜ base + i / 8 < length (now s) ⌝ }
     ensures { λ r. ⌜ r ≡ fieldAt (now (s .entry)) base i c at ⌝ }
 {
     if low_bit(s, base, i) == 1 {
-        if c.nullable {
-            return Value::Read(Field::Null, at);
-        }
-        return Value::Bad;
+        return null_at(c.nullable, at);
     }
     let t = c.ty;
     value_at(false, s, at, t)
