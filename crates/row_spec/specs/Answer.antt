@@ -1,0 +1,116 @@
+-- What each case of an answer is: this paper's number and values.
+use Prim.Native.Nat.{ℕ, _+_}
+use mathlib.Core.Bool.{Bool, true}
+use mathlib.Core.List.{List, []}
+use lib.ListN.{take, drop}
+use lib.Dec.{leb}
+use lib.IntN.{ℤ, pos}
+use lib.Ieee.{binary32, binary64, toBits}
+use Rattle.common.specs.Outcome.{one, Outcome, refused, found}
+use Rattle.row_spec.specs.declared.Column.{Column}
+use Rattle.row_spec.specs.declared.ColumnType.{ColumnType}
+use Rattle.row_spec.specs.declared.ColumnType.the-variants as type
+use Rattle.row_spec.specs.declared.Field.{Field}
+use Rattle.row_spec.specs.declared.Field.the-variants as field
+use Rattle.row_spec.specs.declared.CountAnswer.{CountAnswer}
+use Rattle.row_spec.specs.declared.CountAnswer.the-variants as count
+use Rattle.row_spec.specs.declared.ColumnAnswer.{ColumnAnswer}
+use Rattle.row_spec.specs.declared.ColumnAnswer.the-variants as column
+use Rattle.row_spec.specs.declared.FieldAnswer.{FieldAnswer}
+use Rattle.row_spec.specs.declared.FieldAnswer.the-variants as asked
+
+abbrev pub countOutcome : CountAnswer → Outcome ℕ
+countOutcome (count.Refused n) = refused n
+countOutcome (count.Count n) = found n
+
+abbrev pub columnOutcome : ColumnAnswer → Outcome Column
+columnOutcome (column.Refused n) = refused n
+columnOutcome (column.Column c) = found c
+
+abbrev pub fieldOutcome : FieldAnswer → Outcome Field
+fieldOutcome (asked.Refused n) = refused n
+fieldOutcome (asked.Field f) = found f
+
+-- a field as plain numbers: kind 0 null, 1 yes or no (whole is 1 or 0), 2 whole number, 3 float and 4 double (their stored bits),
+-- 5 time (whole and nanos), 6 place (start and length); what a kind does not use is 0
+pub record Shown : Type 0 where
+  pub kind : ℕ
+  pub whole : ℤ
+  pub bits : ℕ
+  pub nanos : ℕ
+  pub start : ℕ
+  pub length : ℕ
+
+abbrev pub plain : ℕ → ℤ → ℕ → Shown
+plain k z b = record { kind = k; whole = z; bits = b; nanos = 0; start = 0; length = 0 }
+
+unfoldable pub shown : Field → Shown
+shown field.Null = plain 0 (pos 0) 0
+shown (field.Bool b) = plain 1 (pos (one b)) 0
+shown (field.Whole z) = plain 2 z 0
+shown (field.F32 x) = plain 3 (pos 0) (toBits binary32 x)
+shown (field.NanF32 n) = plain 3 (pos 0) n
+shown (field.F64 x) = plain 4 (pos 0) (toBits binary64 x)
+shown (field.NanF64 n) = plain 4 (pos 0) n
+shown (field.Time z n) = record { kind = 5; whole = z; bits = 0; nanos = n; start = 0; length = 0 }
+shown (field.Place a l) = record { kind = 6; whole = pos 0; bits = 0; nanos = 0; start = a; length = l }
+
+-- "places, also returned as that very part; for any other answer or a refusal the part is empty"
+unfoldable pub partOf : Outcome Field → List ℕ → List ℕ
+partOf (found (field.Place a l)) s = take l (drop a s)
+partOf (found field.Null) s = []
+partOf (found (field.Bool b)) s = []
+partOf (found (field.Whole z)) s = []
+partOf (found (field.F32 x)) s = []
+partOf (found (field.F64 x)) s = []
+partOf (found (field.NanF32 n)) s = []
+partOf (found (field.NanF64 n)) s = []
+partOf (found (field.Time z n)) s = []
+partOf (refused n) s = []
+
+-- a place lies within n bytes; what is no place lies anywhere
+unfoldable pub inside : ℕ → Field → Bool
+inside n (field.Place a l) = leb (a + l) n
+inside n field.Null = true
+inside n (field.Bool b) = true
+inside n (field.Whole z) = true
+inside n (field.F32 x) = true
+inside n (field.F64 x) = true
+inside n (field.NanF32 m) = true
+inside n (field.NanF64 m) = true
+inside n (field.Time z m) = true
+
+-- a type's id, its length or precision (0 where it has none), and its scale (0 where it has none)
+pub record TypeShown : Type 0 where
+  pub id : ℕ
+  pub size : ℕ
+  pub scale : ℕ
+
+unfoldable pub typeShown : ColumnType → TypeShown
+typeShown type.Boolean = record { id = 0; size = 0; scale = 0 }
+typeShown type.TinyInt = record { id = 1; size = 0; scale = 0 }
+typeShown type.SmallInt = record { id = 2; size = 0; scale = 0 }
+typeShown type.Int = record { id = 3; size = 0; scale = 0 }
+typeShown type.BigInt = record { id = 4; size = 0; scale = 0 }
+typeShown type.Float = record { id = 5; size = 0; scale = 0 }
+typeShown type.Double = record { id = 6; size = 0; scale = 0 }
+typeShown type.Date = record { id = 7; size = 0; scale = 0 }
+typeShown (type.Char n) = record { id = 8; size = n; scale = 0 }
+typeShown (type.Varchar n) = record { id = 9; size = n; scale = 0 }
+typeShown type.String = record { id = 10; size = 0; scale = 0 }
+typeShown (type.Binary n) = record { id = 11; size = n; scale = 0 }
+typeShown (type.Varbinary n) = record { id = 12; size = n; scale = 0 }
+typeShown type.Bytes = record { id = 13; size = 0; scale = 0 }
+typeShown (type.Decimal p n) = record { id = 14; size = p; scale = n }
+typeShown (type.Time p) = record { id = 15; size = p; scale = 0 }
+typeShown (type.Timestamp p) = record { id = 16; size = p; scale = 0 }
+
+-- the refusal's number, or 0
+abbrev pub refusal : {A : Type 0} → Outcome A → ℕ
+refusal (refused n) = n
+refusal (found a) = 0
+
+-- an output after the call: a refusal leaves what was there
+abbrev pub after : {A B : Type 0} → Outcome A → (A → B) → B → B
+after (refused n) f before = before
+after (found a) f before = f a

@@ -1,0 +1,113 @@
+// The types of schemas, fields and values that row blocks and buckets share. Inner: types and definitions (specs/), no entry point.
+
+// A number in groups of seven bits: the number and the place of the next byte; its bytes run out; or it breaks a rule.
+pub enum Varint {
+    Number(u32, usize),
+    CutShort,
+    IllFormed,
+}
+
+// A column's type, in the order of the ids 0 to 16.
+pub enum ColumnType {
+    Boolean,
+    TinyInt,
+    SmallInt,
+    Int,
+    BigInt,
+    Float,
+    Double,
+    Date,
+    Char { length: u32 },
+    Varchar { length: u32 },
+    String,
+    Binary { length: u32 },
+    Varbinary { length: u32 },
+    Bytes,
+    Decimal { precision: u32, scale: u32 },
+    Time { precision: u32 },
+    Timestamp { precision: u32 },
+}
+
+// A column's type and whether it may be null.
+pub struct Column {
+    pub ty: ColumnType,
+    pub nullable: bool,
+}
+
+// A type and the place of the next byte, or a fault.
+pub enum TypeRead {
+    Type(ColumnType, usize),
+    Fault,
+}
+
+// A column and the place of the next byte, or a fault.
+pub enum ColumnRead {
+    Column(Column, usize),
+    Fault,
+}
+
+// The first count columns are the schema's; the others are blank.
+pub struct Schema {
+    pub columns: [Column; 64],
+    pub count: usize,
+}
+
+// A schema, or a refusal: refused is 0 or its number.
+pub struct SchemaRead {
+    pub refused: u32,
+    pub schema: Schema,
+}
+
+// A field's answer. A NaN cannot pass through f32 and f64: its stored bits are handed over as they are.
+pub enum Field {
+    Null,
+    Bool(bool),
+    Whole(i64),
+    F32(f32),
+    F64(f64),
+    NanF32(u32),
+    NanF64(u64),
+    Time { count: i64, nanos: u32 },
+    Place { start: usize, len: usize },
+}
+
+// How a value is stored: whole numbers of 1, 2, 4 and 8 bytes; bytes after their length, at least so many; an 8-byte time with no
+// nanoseconds, with a varint of them, or with 4 bytes of them.
+pub enum Storage {
+    Boolean,
+    Int8,
+    Int16,
+    Int32,
+    Int64,
+    Float32,
+    Float64,
+    Sized { least: u32 },
+    Time,
+    TimeVarint,
+    TimeFixed,
+}
+
+// A stored value: its answer and the place of the next byte; its bytes run out; or it is bad.
+pub enum Value {
+    Read(Field, usize),
+    CutShort,
+    Bad,
+}
+
+// What a question for a number is answered: a refusal, or the number.
+pub enum CountAnswer {
+    Refused(u32),
+    Count(u32),
+}
+
+// What a question for a column is answered: a refusal, or the column.
+pub enum ColumnAnswer {
+    Refused(u32),
+    Column(Column),
+}
+
+// What a question for a field is answered: a refusal, or the field.
+pub enum FieldAnswer {
+    Refused(u32),
+    Field(Field),
+}
