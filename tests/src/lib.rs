@@ -1,0 +1,3 @@
+//! The second program and what compares it with the library.
+
+pub mod reference;
