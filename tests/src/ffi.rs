@@ -1,0 +1,335 @@
+//! The library's calls, and wrappers that lend guarded buffers and look after every call at what it
+//! did to the caller's memory.
+
+use crate::generate::Random;
+
+/// What a call answered: its outputs or its refusal. The outer error tells of harmed memory.
+pub type Called<T> = Result<Result<T, u32>, String>;
+
+const GUARD: usize = 24;
+
+/// A number that fills lent memory.
+pub trait Cell: Copy + PartialEq {
+    fn from_bits(bits: u64) -> Self;
+}
+
+macro_rules! cell {
+    ($($number:ty),*) => {$(
+        impl Cell for $number {
+            fn from_bits(bits: u64) -> Self {
+                bits as $number
+            }
+        }
+    )*};
+}
+cell!(u8, u32, u64, i64, usize);
+
+/// A lent slice with guard cells before and behind it.
+pub struct Lent<T> {
+    name: &'static str,
+    cells: Vec<T>,
+    before: Vec<T>,
+    start: usize,
+    length: usize,
+}
+
+impl<T: Cell> Lent<T> {
+    /// An output: every cell holds a random pattern.
+    pub fn output(name: &'static str, length: usize, random: &mut Random) -> Self {
+        let start = random.between(1, GUARD);
+        let mut pattern = random.next();
+        let cells: Vec<T> = (0..start + length + GUARD)
+            .map(|_| {
+                pattern = pattern.rotate_left(9).wrapping_add(0x9E37_79B9_7F4A_7C15);
+                T::from_bits(pattern)
+            })
+            .collect();
+        Lent {
+            name,
+            before: cells.clone(),
+            cells,
+            start,
+            length,
+        }
+    }
+
+    pub fn input(name: &'static str, content: &[T], random: &mut Random) -> Self {
+        let mut lent = Lent::output(name, 0, random);
+        lent.length = content.len();
+        let start = lent.start;
+        lent.cells.splice(start..start, content.iter().copied());
+        lent.before = lent.cells.clone();
+        lent
+    }
+
+    /// One number that a call may read and set.
+    pub fn scalar(name: &'static str, value: T, random: &mut Random) -> Self {
+        Lent::input(name, &[value], random)
+    }
+
+    pub fn content(&self) -> &[T] {
+        &self.cells[self.start..self.start + self.length]
+    }
+
+    pub fn value(&self) -> T {
+        self.cells[self.start]
+    }
+
+    fn pointer(&self) -> *const T {
+        self.content().as_ptr()
+    }
+
+    fn pointer_mut(&mut self) -> *mut T {
+        self.cells[self.start..].as_mut_ptr()
+    }
+}
+
+/// Lent memory that can be looked at after a call.
+trait Memory {
+    /// An error unless every cell but the first `free` of the lent slice is as before.
+    fn unharmed(&self, free: usize) -> Result<(), String>;
+}
+
+impl<T: Cell> Memory for Lent<T> {
+    fn unharmed(&self, free: usize) -> Result<(), String> {
+        let free = self.start..self.start + free;
+        if self.cells[..free.start] == self.before[..free.start]
+            && self.cells[free.end..] == self.before[free.end..]
+        {
+            return Ok(());
+        }
+        let changed = (0..self.cells.len())
+            .find(|&i| !free.contains(&i) && self.cells[i] != self.before[i])
+            .unwrap_or(0);
+        Err(format!(
+            "memory harmed: '{}' of {} cells changed at cell {}",
+            self.name,
+            self.length,
+            changed as i64 - self.start as i64
+        ))
+    }
+}
+
+/// The answer of a call that returned `code`, if it kept to the memory it may change: nothing of
+/// the inputs, on success the first cells of each output, as many as its number says.
+fn settle<T>(
+    code: u32,
+    inputs: &[&dyn Memory],
+    outputs: &[(&dyn Memory, usize)],
+    answer: impl FnOnce() -> T,
+) -> Called<T> {
+    for input in inputs {
+        input.unharmed(0)?;
+    }
+    for &(output, free) in outputs {
+        output.unharmed(if code == 0 { free } else { 0 })?;
+    }
+    Ok(if code == 0 { Ok(answer()) } else { Err(code) })
+}
+
+/// A 0 or 1, as the interface promises.
+fn mark(name: &str, value: u8) -> Result<bool, String> {
+    match value {
+        0 => Ok(false),
+        1 => Ok(true),
+        _ => Err(format!("'{name}' is {value}, neither 0 nor 1")),
+    }
+}
+
+fn within(name: &str, length: usize, room: usize) -> Result<usize, String> {
+    if length > room {
+        return Err(format!("'{name}' is {length} with a room of {room}"));
+    }
+    Ok(length)
+}
+
+#[cfg(feature = "read")]
+pub mod read {
+    use super::*;
+
+    mod calls {
+        extern "C" {
+            pub fn bv_bitmap_check(bytes: *const u8, len: usize, cardinality: *mut u32) -> u32;
+            pub fn bv_bitmap_probe(
+                bytes: *const u8,
+                len: usize,
+                position: u32,
+                member: *mut u8,
+            ) -> u32;
+            pub fn bv_bitmap_rank(
+                bytes: *const u8,
+                len: usize,
+                position: u32,
+                below: *mut u32,
+            ) -> u32;
+            pub fn bv_bitmap_page(
+                bytes: *const u8,
+                len: usize,
+                place: *mut u32,
+                finished: *mut u8,
+                list: *mut u32,
+                room: usize,
+                given: *mut u32,
+            ) -> u32;
+        }
+    }
+    pub use calls::*;
+
+    pub fn check(bytes: &Lent<u8>, random: &mut Random) -> Called<u32> {
+        let mut cardinality = Lent::output("cardinality", 1, random);
+        let code =
+            unsafe { bv_bitmap_check(bytes.pointer(), bytes.length, cardinality.pointer_mut()) };
+        settle(code, &[bytes], &[(&cardinality, 1)], || cardinality.value())
+    }
+
+    pub fn probe(bytes: &Lent<u8>, position: u32, random: &mut Random) -> Called<bool> {
+        let mut member = Lent::output("member", 1, random);
+        let code = unsafe {
+            bv_bitmap_probe(bytes.pointer(), bytes.length, position, member.pointer_mut())
+        };
+        match settle(code, &[bytes], &[(&member, 1)], || member.value())? {
+            Ok(value) => Ok(Ok(mark("member", value)?)),
+            Err(refusal) => Ok(Err(refusal)),
+        }
+    }
+
+    pub fn rank(bytes: &Lent<u8>, position: u32, random: &mut Random) -> Called<u32> {
+        let mut below = Lent::output("below", 1, random);
+        let code =
+            unsafe { bv_bitmap_rank(bytes.pointer(), bytes.length, position, below.pointer_mut()) };
+        settle(code, &[bytes], &[(&below, 1)], || below.value())
+    }
+
+    /// The place and mark after a page, and the members that it gave.
+    pub type Page = (u32, u8, Vec<u32>);
+
+    pub fn page(
+        bytes: &Lent<u8>,
+        place: u32,
+        finished: u8,
+        room: usize,
+        random: &mut Random,
+    ) -> Called<Page> {
+        let mut place = Lent::scalar("place", place, random);
+        let mut finished = Lent::scalar("finished", finished, random);
+        let mut given = Lent::output("given", 1, random);
+        let mut list = Lent::output("list", room, random);
+        let code = unsafe {
+            bv_bitmap_page(
+                bytes.pointer(),
+                bytes.length,
+                place.pointer_mut(),
+                finished.pointer_mut(),
+                list.pointer_mut(),
+                room,
+                given.pointer_mut(),
+            )
+        };
+        let mut count = 0;
+        if code == 0 {
+            count = within("given", given.value() as usize, room)?;
+        }
+        let outputs: [(&dyn Memory, usize); 4] =
+            [(&place, 1), (&finished, 1), (&list, count), (&given, 1)];
+        settle(code, &[bytes], &outputs, || {
+            (place.value(), finished.value(), list.content()[..count].to_vec())
+        })
+    }
+}
+
+/// Lends an output of `room` bytes and gives what the call wrote into it.
+#[cfg(any(feature = "write", feature = "combine"))]
+fn written(
+    inputs: &[&dyn Memory],
+    room: usize,
+    random: &mut Random,
+    call: impl FnOnce(*mut u8, usize, *mut usize) -> u32,
+) -> Called<Vec<u8>> {
+    let mut out = Lent::output("out", room, random);
+    let mut length = Lent::output("length", 1, random);
+    let code = call(out.pointer_mut(), room, length.pointer_mut());
+    let mut count = 0;
+    if code == 0 {
+        count = within("length", length.value(), room)?;
+    }
+    settle(code, inputs, &[(&out, count), (&length, 1)], || out.content()[..count].to_vec())
+}
+
+#[cfg(feature = "write")]
+pub mod write {
+    use super::*;
+
+    mod calls {
+        extern "C" {
+            pub fn bv_bitmap_write(
+                positions: *const u32,
+                count: usize,
+                out: *mut u8,
+                room: usize,
+                length: *mut usize,
+            ) -> u32;
+        }
+    }
+    pub use calls::*;
+
+    pub fn write(positions: &Lent<u32>, room: usize, random: &mut Random) -> Called<Vec<u8>> {
+        written(&[positions], room, random, |out, room, length| unsafe {
+            bv_bitmap_write(positions.pointer(), positions.length, out, room, length)
+        })
+    }
+}
+
+#[cfg(feature = "combine")]
+pub mod combine {
+    use super::*;
+    use crate::reference::bitmap::Operation;
+
+    pub type Call =
+        unsafe extern "C" fn(*const u8, usize, *const u8, usize, *mut u8, usize, *mut usize) -> u32;
+
+    mod calls {
+        macro_rules! combine {
+            ($($name:ident),*) => {
+                extern "C" {$(
+                    pub fn $name(
+                        a: *const u8,
+                        a_len: usize,
+                        b: *const u8,
+                        b_len: usize,
+                        out: *mut u8,
+                        room: usize,
+                        length: *mut usize,
+                    ) -> u32;
+                )*}
+            };
+        }
+        combine!(
+            bv_bitmap_union,
+            bv_bitmap_intersection,
+            bv_bitmap_difference,
+            bv_bitmap_symmetric_difference
+        );
+    }
+
+    pub fn call(operation: Operation) -> Call {
+        match operation {
+            Operation::Union => calls::bv_bitmap_union,
+            Operation::Intersection => calls::bv_bitmap_intersection,
+            Operation::Difference => calls::bv_bitmap_difference,
+            Operation::SymmetricDifference => calls::bv_bitmap_symmetric_difference,
+        }
+    }
+
+    pub fn combine(
+        operation: Operation,
+        a: &Lent<u8>,
+        b: &Lent<u8>,
+        room: usize,
+        random: &mut Random,
+    ) -> Called<Vec<u8>> {
+        let call = call(operation);
+        written(&[a, b], room, random, |out, room, length| unsafe {
+            call(a.pointer(), a.length, b.pointer(), b.length, out, room, length)
+        })
+    }
+}

@@ -1,0 +1,327 @@
+//! A stand-in for the library: its calls, made from the second program. The variable BV_FAULT plants
+//! one fault, by name; src/bin/faults.rs lists the names. With it the tests can be seen to fail.
+
+use crate::reference::bitmap::{self, Operation};
+use std::slice::{from_raw_parts, from_raw_parts_mut};
+use std::sync::OnceLock;
+
+/// Whether the fault of this name is planted.
+fn planted(name: &str) -> bool {
+    static FAULT: OnceLock<String> = OnceLock::new();
+    FAULT.get_or_init(|| std::env::var("BV_FAULT").unwrap_or_default()) == name
+}
+
+/// The faults that can be planted, with the group that must find each one.
+pub fn faults() -> Vec<(&'static str, String)> {
+    let mut faults = Vec::new();
+    for (group, numbers) in [("bitmap_read", 1..=11), ("bitmap_write", 12..=13)] {
+        faults.extend(numbers.map(|number| (group, format!("refusal-{number}"))));
+    }
+    for (group, names) in FAULTS {
+        faults.extend(names.iter().map(|name| (*group, name.to_string())));
+    }
+    faults
+}
+
+const FAULTS: &[(&str, &[&str])] = &[
+    (
+        "bitmap_read",
+        &[
+            "refuses-everything",
+            "output-touched-on-refusal",
+            "input-changed",
+            "count-invented",
+            "count-as-eight-bytes",
+            "probe-aliases-high-numbers",
+            "member-not-0-or-1",
+            "rank-counts-the-position",
+            "rank-of-large-numbers-0",
+            "page-claims-finished",
+            "page-finishes-one-call-late",
+            "page-past-room",
+            "page-touches-rest",
+            "page-skips-a-member",
+            "page-place-not-moved",
+            "page-lists-when-finished",
+            "page-mark-rewritten",
+        ],
+    ),
+    (
+        "bitmap_write",
+        &[
+            "writes-nothing",
+            "writes-before-room",
+            "writes-past-length",
+            "writes-before-output",
+            "length-touched-on-refusal",
+            "room-before-list",
+            "trailing-empty-container",
+            "room-one-too-many",
+        ],
+    ),
+    (
+        "combine",
+        &[
+            "always-empty",
+            "difference-swapped",
+            "second-half-dropped",
+            "second-judged-first",
+            "trailing-empty-container",
+            "writes-before-room",
+            "writes-past-length",
+        ],
+    ),
+    ("plans", &["always-empty", "second-half-dropped", "refusal-13"]),
+];
+
+/// What a call returns for a refusal.
+fn refuse(number: u32) -> u32 {
+    if planted(&format!("refusal-{number}")) {
+        number % 11 + 1
+    } else {
+        number
+    }
+}
+
+unsafe fn set<T>(output: *mut T, value: T) {
+    output.write(value);
+}
+
+unsafe fn judge<'a, T>(
+    bytes: *const u8,
+    len: usize,
+    output: *mut T,
+    answer: impl FnOnce(bitmap::Bitmap<'a>) -> T,
+) -> u32
+where
+    T: Default,
+{
+    if planted("refuses-everything") {
+        return 1;
+    }
+    if planted("input-changed") && len > 0 {
+        *(bytes as *mut u8) ^= 1;
+    }
+    match bitmap::Bitmap::judge(from_raw_parts(bytes, len)) {
+        Ok(bitmap) => {
+            set(output, answer(bitmap));
+            0
+        }
+        Err(number) => {
+            if planted("output-touched-on-refusal") {
+                set(output, T::default());
+            }
+            refuse(number)
+        }
+    }
+}
+
+/// # Safety
+/// As include/barcovento.h says.
+#[no_mangle]
+pub unsafe extern "C" fn bv_bitmap_check(
+    bytes: *const u8,
+    len: usize,
+    cardinality: *mut u32,
+) -> u32 {
+    if planted("count-as-eight-bytes") {
+        return judge(bytes, len, cardinality as *mut u64, |bitmap| bitmap.cardinality().into());
+    }
+    judge(bytes, len, cardinality, |bitmap| {
+        let invented = planted("count-invented") && bitmap.cardinality() > 100;
+        bitmap.cardinality() - u32::from(invented)
+    })
+}
+
+/// # Safety
+/// As include/barcovento.h says.
+#[no_mangle]
+pub unsafe extern "C" fn bv_bitmap_probe(
+    bytes: *const u8,
+    len: usize,
+    position: u32,
+    member: *mut u8,
+) -> u32 {
+    judge(bytes, len, member, |bitmap| {
+        let alias = planted("probe-aliases-high-numbers");
+        let position = if alias { position & 0xFF_FFFF } else { position };
+        let high = if planted("member-not-0-or-1") { 128 } else { 1 };
+        u8::from(bitmap.contains(position)) * high
+    })
+}
+
+/// # Safety
+/// As include/barcovento.h says.
+#[no_mangle]
+pub unsafe extern "C" fn bv_bitmap_rank(
+    bytes: *const u8,
+    len: usize,
+    position: u32,
+    below: *mut u32,
+) -> u32 {
+    judge(bytes, len, below, |bitmap| {
+        if planted("rank-of-large-numbers-0") && position > 2_097_151 {
+            return 0;
+        }
+        let counted = planted("rank-counts-the-position") && bitmap.contains(position);
+        bitmap.rank(position) + u32::from(counted)
+    })
+}
+
+/// # Safety
+/// As include/barcovento.h says.
+#[no_mangle]
+pub unsafe extern "C" fn bv_bitmap_page(
+    bytes: *const u8,
+    len: usize,
+    place: *mut u32,
+    finished: *mut u8,
+    list: *mut u32,
+    room: usize,
+    given: *mut u32,
+) -> u32 {
+    let bitmap = match bitmap::Bitmap::judge(from_raw_parts(bytes, len)) {
+        Ok(bitmap) => bitmap,
+        Err(number) => {
+            if planted("output-touched-on-refusal") {
+                set(given, 0);
+            }
+            return refuse(number);
+        }
+    };
+    if *finished != 0 && !planted("page-lists-when-finished") {
+        if planted("page-mark-rewritten") {
+            set(finished, 1);
+        }
+        set(given, 0);
+        return 0;
+    }
+    let lent = from_raw_parts_mut(list, room);
+    let mut page = bitmap.page(*place, lent);
+    if planted("page-skips-a-member") && page.given > 1 {
+        lent[page.given - 2] = lent[page.given - 1];
+    }
+    if planted("page-claims-finished") && page.given > 0 {
+        page.finished = true;
+    }
+    if planted("page-finishes-one-call-late") && page.given == room && room > 0 {
+        page.finished = false;
+    }
+    if planted("page-past-room") && !page.finished {
+        set(list.add(room), page.place);
+    }
+    if planted("page-touches-rest") && page.given < room {
+        lent[page.given] = 0;
+    }
+    if !planted("page-place-not-moved") {
+        set(place, page.place);
+    }
+    set(finished, u8::from(page.finished));
+    set(given, page.given as u32);
+    0
+}
+
+/// Runs a call that writes a form, with the faults of writing.
+unsafe fn write_form(
+    out: *mut u8,
+    room: usize,
+    length: *mut usize,
+    write: impl FnOnce(&mut [u8]) -> Result<usize, u32>,
+) -> u32 {
+    let lent = from_raw_parts_mut(out, room);
+    match write(lent) {
+        Ok(mut count) => {
+            if planted("writes-nothing") {
+                lent[0] ^= 1;
+            }
+            if planted("trailing-empty-container") && count > 9 && count < room && lent[5] == 0 {
+                lent[4] = lent[4].wrapping_add(1);
+                count += 1;
+            }
+            if planted("writes-past-length") && count < room {
+                lent[count] = 0;
+            }
+            if planted("writes-before-output") {
+                *out.sub(1) ^= 1;
+            }
+            set(length, count);
+            0
+        }
+        Err(number) => {
+            if planted("writes-before-room") && number == 13 && room > 0 {
+                lent[0] ^= 1;
+            }
+            if planted("length-touched-on-refusal") {
+                set(length, 0);
+            }
+            if planted("room-before-list") && number == 12 && room < 6 {
+                return 13;
+            }
+            if planted("room-one-too-many") && number == 13 && room > 100 {
+                set(length, room + 1);
+                return 0;
+            }
+            refuse(number)
+        }
+    }
+}
+
+/// # Safety
+/// As include/barcovento.h says.
+#[no_mangle]
+pub unsafe extern "C" fn bv_bitmap_write(
+    positions: *const u32,
+    count: usize,
+    out: *mut u8,
+    room: usize,
+    length: *mut usize,
+) -> u32 {
+    let positions = from_raw_parts(positions, count);
+    write_form(out, room, length, |out| bitmap::write(positions, out))
+}
+
+fn combine(operation: Operation, a: &[u8], b: &[u8], out: &mut [u8]) -> Result<usize, u32> {
+    if planted("second-judged-first") {
+        bitmap::check(b)?;
+    }
+    if planted("always-empty") {
+        bitmap::check(a)?;
+        bitmap::check(b)?;
+        return bitmap::write(&[], out);
+    }
+    match operation {
+        Operation::Difference if planted("difference-swapped") => {
+            bitmap::combine(operation, b, a, out)
+        }
+        Operation::SymmetricDifference if planted("second-half-dropped") => {
+            bitmap::combine(Operation::Difference, a, b, out)
+        }
+        _ => bitmap::combine(operation, a, b, out),
+    }
+}
+
+macro_rules! combine {
+    ($($name:ident $operation:ident),*) => {$(
+        /// # Safety
+        /// As include/barcovento.h says.
+        #[no_mangle]
+        pub unsafe extern "C" fn $name(
+            a: *const u8,
+            a_len: usize,
+            b: *const u8,
+            b_len: usize,
+            out: *mut u8,
+            room: usize,
+            length: *mut usize,
+        ) -> u32 {
+            let (a, b) = (from_raw_parts(a, a_len), from_raw_parts(b, b_len));
+            write_form(out, room, length, |out| combine(Operation::$operation, a, b, out))
+        }
+    )*};
+}
+combine!(
+    bv_bitmap_union Union,
+    bv_bitmap_intersection Intersection,
+    bv_bitmap_difference Difference,
+    bv_bitmap_symmetric_difference SymmetricDifference
+);
