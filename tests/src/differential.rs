@@ -8,10 +8,14 @@ use std::fmt::Debug;
 mod bitmap_read;
 #[cfg(feature = "write")]
 mod bitmap_write;
+#[cfg(feature = "buckets")]
+mod buckets;
 #[cfg(feature = "combine")]
 mod combine;
 #[cfg(feature = "combine")]
 mod plans;
+#[cfg(feature = "rows")]
+mod rows;
 
 /// How often each refusal number was reached; 0 stands for acceptance.
 #[derive(Default)]
@@ -65,6 +69,20 @@ pub fn groups() -> Vec<Group> {
             refusals: &[13],
             default_cases: 10_000,
             run_case: plans::run_case,
+        },
+        #[cfg(feature = "rows")]
+        Group {
+            name: "rows",
+            refusals: &[20, 21, 22, 23, 24, 25],
+            default_cases: 200_000,
+            run_case: rows::run_case,
+        },
+        #[cfg(feature = "buckets")]
+        Group {
+            name: "buckets",
+            refusals: &[20, 25, 30, 31, 32, 33, 34, 35, 36, 37],
+            default_cases: 200_000,
+            run_case: buckets::run_case,
         },
     ]
 }
@@ -131,5 +149,15 @@ fn room_around(random: &mut Random, length: usize) -> usize {
         3 => length + 1,
         4 => length + random.below(300),
         _ => length,
+    }
+}
+
+/// A row or column to ask for: mostly one of `count`, at times an absent one.
+#[cfg(any(feature = "rows", feature = "buckets"))]
+fn any_index(random: &mut Random, count: usize) -> u32 {
+    match random.below(12) {
+        0 => count as u32,
+        1 => random.pick(&[0, 64, 65_536, u32::MAX]),
+        _ => random.below(count.max(1)) as u32,
     }
 }

@@ -333,3 +333,277 @@ pub mod combine {
         })
     }
 }
+
+/// The outputs of a field call: kind, whole, bits, nanos, start, length.
+#[cfg(any(feature = "rows", feature = "buckets"))]
+#[derive(Clone, Copy, Debug, PartialEq, Eq)]
+pub struct Field {
+    pub kind: u8,
+    pub whole: i64,
+    pub bits: u64,
+    pub nanos: u32,
+    pub start: usize,
+    pub length: usize,
+}
+
+#[cfg(any(feature = "rows", feature = "buckets"))]
+impl From<crate::reference::Answer> for Field {
+    fn from(answer: crate::reference::Answer) -> Field {
+        use crate::reference::Answer;
+        let mut field = Field {
+            kind: 0,
+            whole: 0,
+            bits: 0,
+            nanos: 0,
+            start: 0,
+            length: 0,
+        };
+        match answer {
+            Answer::Null => {}
+            Answer::YesNo(yes) => (field.kind, field.whole) = (1, yes.into()),
+            Answer::Whole(whole) => (field.kind, field.whole) = (2, whole),
+            Answer::Float(bits) => (field.kind, field.bits) = (3, bits.into()),
+            Answer::Double(bits) => (field.kind, field.bits) = (4, bits),
+            Answer::Time { count, nanos } => {
+                (field.kind, field.whole, field.nanos) = (5, count, nanos)
+            }
+            Answer::Place { start, length } => {
+                (field.kind, field.start, field.length) = (6, start, length)
+            }
+        }
+        field
+    }
+}
+
+/// Pointers to the six outputs of a field call.
+#[cfg(any(feature = "rows", feature = "buckets"))]
+pub struct FieldPointers {
+    pub kind: *mut u8,
+    pub whole: *mut i64,
+    pub bits: *mut u64,
+    pub nanos: *mut u32,
+    pub start: *mut usize,
+    pub length: *mut usize,
+}
+
+/// Lends the six outputs of a field call.
+#[cfg(any(feature = "rows", feature = "buckets"))]
+fn field(
+    inputs: &[&dyn Memory],
+    random: &mut Random,
+    call: impl FnOnce(FieldPointers) -> u32,
+) -> Called<Field> {
+    let mut kind = Lent::output("kind", 1, random);
+    let mut whole = Lent::output("whole", 1, random);
+    let mut bits = Lent::output("bits", 1, random);
+    let mut nanos = Lent::output("nanos", 1, random);
+    let mut start = Lent::output("start", 1, random);
+    let mut length = Lent::output("length", 1, random);
+    let code = call(FieldPointers {
+        kind: kind.pointer_mut(),
+        whole: whole.pointer_mut(),
+        bits: bits.pointer_mut(),
+        nanos: nanos.pointer_mut(),
+        start: start.pointer_mut(),
+        length: length.pointer_mut(),
+    });
+    let outputs: [(&dyn Memory, usize); 6] =
+        [(&kind, 1), (&whole, 1), (&bits, 1), (&nanos, 1), (&start, 1), (&length, 1)];
+    settle(code, inputs, &outputs, || Field {
+        kind: kind.value(),
+        whole: whole.value(),
+        bits: bits.value(),
+        nanos: nanos.value(),
+        start: start.value(),
+        length: length.value(),
+    })
+}
+
+#[cfg(feature = "rows")]
+pub mod rows {
+    use super::*;
+
+    mod calls {
+        extern "C" {
+            pub fn bv_schema_check(schema: *const u8, len: usize, columns: *mut u32) -> u32;
+            pub fn bv_schema_column(
+                schema: *const u8,
+                len: usize,
+                column: u32,
+                kind: *mut u8,
+                nullable: *mut u8,
+                size: *mut u32,
+                scale: *mut u32,
+            ) -> u32;
+            pub fn bv_block_check(
+                schema: *const u8,
+                schema_len: usize,
+                block: *const u8,
+                block_len: usize,
+                rows: *mut u32,
+            ) -> u32;
+            pub fn bv_block_field(
+                schema: *const u8,
+                schema_len: usize,
+                block: *const u8,
+                block_len: usize,
+                row: u32,
+                column: u32,
+                kind: *mut u8,
+                whole: *mut i64,
+                bits: *mut u64,
+                nanos: *mut u32,
+                start: *mut usize,
+                length: *mut usize,
+            ) -> u32;
+        }
+    }
+    pub use calls::*;
+
+    pub fn schema_check(schema: &Lent<u8>, random: &mut Random) -> Called<u32> {
+        let mut columns = Lent::output("columns", 1, random);
+        let code =
+            unsafe { bv_schema_check(schema.pointer(), schema.length, columns.pointer_mut()) };
+        settle(code, &[schema], &[(&columns, 1)], || columns.value())
+    }
+
+    /// The type's id, whether it may be null, its length or precision, its scale.
+    pub type Column = (u8, bool, u32, u32);
+
+    pub fn schema_column(schema: &Lent<u8>, column: u32, random: &mut Random) -> Called<Column> {
+        let mut kind = Lent::output("type", 1, random);
+        let mut nullable = Lent::output("nullable", 1, random);
+        let mut size = Lent::output("size", 1, random);
+        let mut scale = Lent::output("scale", 1, random);
+        let code = unsafe {
+            bv_schema_column(
+                schema.pointer(),
+                schema.length,
+                column,
+                kind.pointer_mut(),
+                nullable.pointer_mut(),
+                size.pointer_mut(),
+                scale.pointer_mut(),
+            )
+        };
+        let outputs: [(&dyn Memory, usize); 4] =
+            [(&kind, 1), (&nullable, 1), (&size, 1), (&scale, 1)];
+        if let Err(refusal) = settle(code, &[schema], &outputs, || ())? {
+            return Ok(Err(refusal));
+        }
+        let nullable = mark("nullable", nullable.value())?;
+        Ok(Ok((kind.value(), nullable, size.value(), scale.value())))
+    }
+
+    pub fn block_check(schema: &Lent<u8>, block: &Lent<u8>, random: &mut Random) -> Called<u32> {
+        let mut rows = Lent::output("rows", 1, random);
+        let code = unsafe {
+            bv_block_check(
+                schema.pointer(),
+                schema.length,
+                block.pointer(),
+                block.length,
+                rows.pointer_mut(),
+            )
+        };
+        settle(code, &[schema, block], &[(&rows, 1)], || rows.value())
+    }
+
+    pub fn block_field(
+        schema: &Lent<u8>,
+        block: &Lent<u8>,
+        row: u32,
+        column: u32,
+        random: &mut Random,
+    ) -> Called<Field> {
+        field(&[schema, block], random, |to| unsafe {
+            bv_block_field(
+                schema.pointer(),
+                schema.length,
+                block.pointer(),
+                block.length,
+                row,
+                column,
+                to.kind,
+                to.whole,
+                to.bits,
+                to.nanos,
+                to.start,
+                to.length,
+            )
+        })
+    }
+}
+
+#[cfg(feature = "buckets")]
+pub mod buckets {
+    use super::*;
+
+    mod calls {
+        extern "C" {
+            pub fn bv_bucket_check(
+                schema: *const u8,
+                schema_len: usize,
+                rows: u32,
+                bucket: *const u8,
+                bucket_len: usize,
+            ) -> u32;
+            pub fn bv_bucket_field(
+                schema: *const u8,
+                schema_len: usize,
+                rows: u32,
+                bucket: *const u8,
+                bucket_len: usize,
+                row: u32,
+                column: u32,
+                kind: *mut u8,
+                whole: *mut i64,
+                bits: *mut u64,
+                nanos: *mut u32,
+                start: *mut usize,
+                length: *mut usize,
+            ) -> u32;
+        }
+    }
+    pub use calls::*;
+
+    pub fn bucket_check(schema: &Lent<u8>, rows: u32, bucket: &Lent<u8>) -> Called<()> {
+        let code = unsafe {
+            bv_bucket_check(
+                schema.pointer(),
+                schema.length,
+                rows,
+                bucket.pointer(),
+                bucket.length,
+            )
+        };
+        settle(code, &[schema, bucket], &[], || ())
+    }
+
+    pub fn bucket_field(
+        schema: &Lent<u8>,
+        rows: u32,
+        bucket: &Lent<u8>,
+        row: u32,
+        column: u32,
+        random: &mut Random,
+    ) -> Called<Field> {
+        field(&[schema, bucket], random, |to| unsafe {
+            bv_bucket_field(
+                schema.pointer(),
+                schema.length,
+                rows,
+                bucket.pointer(),
+                bucket.length,
+                row,
+                column,
+                to.kind,
+                to.whole,
+                to.bits,
+                to.nanos,
+                to.start,
+                to.length,
+            )
+        })
+    }
+}

@@ -1,6 +1,9 @@
 //! Seeded generators of sound and of damaged inputs.
 
 pub mod bitmap;
+pub mod buckets;
+pub mod rows;
+pub mod schema;
 
 /// SplitMix64.
 #[derive(Clone)]

@@ -1,7 +1,9 @@
 //! A stand-in for the library: its calls, made from the second program. The variable BV_FAULT plants
 //! one fault, by name; src/bin/faults.rs lists the names. With it the tests can be seen to fail.
 
+use crate::ffi::{Field, FieldPointers};
 use crate::reference::bitmap::{self, Operation};
+use crate::reference::{buckets, rows, schema, Answer};
 use std::slice::{from_raw_parts, from_raw_parts_mut};
 use std::sync::OnceLock;
 
@@ -14,7 +16,17 @@ fn planted(name: &str) -> bool {
 /// The faults that can be planted, with the group that must find each one.
 pub fn faults() -> Vec<(&'static str, String)> {
     let mut faults = Vec::new();
-    for (group, numbers) in [("bitmap_read", 1..=11), ("bitmap_write", 12..=13)] {
+    let refusals = [
+        ("bitmap_read", 1..=11),
+        ("bitmap_write", 12..=13),
+        ("combine", 1..=11),
+        ("combine", 13..=13),
+        ("rows", 20..=25),
+        ("buckets", 20..=20),
+        ("buckets", 25..=25),
+        ("buckets", 30..=37),
+    ];
+    for (group, numbers) in refusals {
         faults.extend(numbers.map(|number| (group, format!("refusal-{number}"))));
     }
     for (group, names) in FAULTS {
@@ -72,6 +84,23 @@ const FAULTS: &[(&str, &[&str])] = &[
         ],
     ),
     ("plans", &["always-empty", "second-half-dropped", "refusal-13"]),
+    ("rows", &FIELD_FAULTS),
+    ("rows", &["rows-invented", "nullable-inverted", "size-forgotten", "scale-forgotten"]),
+    ("buckets", &FIELD_FAULTS),
+];
+
+const FIELD_FAULTS: [&str; 11] = [
+    "accepts-everything",
+    "refuses-everything",
+    "kind-touched-on-refusal",
+    "length-touched-on-refusal",
+    "place-at-its-length",
+    "place-too-short",
+    "whole-not-signed",
+    "nan-made-quiet",
+    "nanoseconds-forgotten",
+    "null-as-0",
+    "unused-output-not-0",
 ];
 
 /// What a call returns for a refusal.
@@ -325,3 +354,181 @@ combine!(
     bv_bitmap_difference Difference,
     bv_bitmap_symmetric_difference SymmetricDifference
 );
+
+/// # Safety
+/// As include/barcovento.h says.
+#[no_mangle]
+pub unsafe extern "C" fn bv_schema_check(bytes: *const u8, len: usize, columns: *mut u32) -> u32 {
+    match schema::check(from_raw_parts(bytes, len)) {
+        Ok(count) => {
+            set(columns, count);
+            0
+        }
+        Err(number) => refuse(number),
+    }
+}
+
+/// # Safety
+/// As include/barcovento.h says.
+#[no_mangle]
+pub unsafe extern "C" fn bv_schema_column(
+    bytes: *const u8,
+    len: usize,
+    column: u32,
+    kind: *mut u8,
+    nullable: *mut u8,
+    size: *mut u32,
+    scale: *mut u32,
+) -> u32 {
+    match schema::column(from_raw_parts(bytes, len), column) {
+        Ok(column) => {
+            set(kind, column.kind.id());
+            set(nullable, u8::from(column.nullable != planted("nullable-inverted")));
+            set(size, if planted("size-forgotten") { 0 } else { column.kind.size() });
+            set(scale, if planted("scale-forgotten") { 0 } else { column.kind.scale() });
+            0
+        }
+        Err(number) => refuse(number),
+    }
+}
+
+/// # Safety
+/// As include/barcovento.h says.
+#[no_mangle]
+pub unsafe extern "C" fn bv_block_check(
+    schema: *const u8,
+    schema_len: usize,
+    block: *const u8,
+    block_len: usize,
+    rows: *mut u32,
+) -> u32 {
+    let schema = from_raw_parts(schema, schema_len);
+    match rows::check(schema, from_raw_parts(block, block_len)) {
+        Ok(count) => {
+            set(rows, count + u32::from(planted("rows-invented") && count > 3));
+            0
+        }
+        Err(number) => refuse(number),
+    }
+}
+
+/// The outputs for an answer, with the faults of fields.
+fn field_outputs(answer: Answer) -> Field {
+    let mut field = Field::from(answer);
+    let place = matches!(answer, Answer::Place { .. });
+    if planted("place-at-its-length") && place {
+        field.start -= 1;
+    }
+    if planted("place-too-short") && place {
+        field.length = field.length.saturating_sub(1);
+    }
+    if planted("whole-not-signed") && (-128..0).contains(&field.whole) {
+        field.whole += 256;
+    }
+    if planted("nan-made-quiet") && matches!(answer, Answer::Float(_)) {
+        field.bits = f32::from_bits(field.bits as u32).to_bits().into();
+        if f32::from_bits(field.bits as u32).is_nan() {
+            field.bits |= 1 << 22;
+        }
+    }
+    if planted("nanoseconds-forgotten") {
+        field.nanos = 0;
+    }
+    if planted("null-as-0") && field.kind == 0 {
+        field.kind = 2;
+    }
+    if planted("unused-output-not-0") && field.kind == 1 {
+        field.bits = 1;
+    }
+    field
+}
+
+unsafe fn answer_field(answer: Result<Answer, u32>, to: FieldPointers) -> u32 {
+    if planted("refuses-everything") {
+        return 25;
+    }
+    let field = match answer {
+        Ok(answer) => field_outputs(answer),
+        Err(_) if planted("accepts-everything") => field_outputs(Answer::Null),
+        Err(number) => {
+            if planted("kind-touched-on-refusal") {
+                set(to.kind, 0);
+            }
+            if planted("length-touched-on-refusal") {
+                set(to.length, 0);
+            }
+            return refuse(number);
+        }
+    };
+    set(to.kind, field.kind);
+    set(to.whole, field.whole);
+    set(to.bits, field.bits);
+    set(to.nanos, field.nanos);
+    set(to.start, field.start);
+    set(to.length, field.length);
+    0
+}
+
+/// # Safety
+/// As include/barcovento.h says.
+#[no_mangle]
+pub unsafe extern "C" fn bv_block_field(
+    schema: *const u8,
+    schema_len: usize,
+    block: *const u8,
+    block_len: usize,
+    row: u32,
+    column: u32,
+    kind: *mut u8,
+    whole: *mut i64,
+    bits: *mut u64,
+    nanos: *mut u32,
+    start: *mut usize,
+    length: *mut usize,
+) -> u32 {
+    let schema = from_raw_parts(schema, schema_len);
+    let block = from_raw_parts(block, block_len);
+    let to = FieldPointers { kind, whole, bits, nanos, start, length };
+    answer_field(rows::field(schema, block, row, column), to)
+}
+
+/// # Safety
+/// As include/barcovento.h says.
+#[no_mangle]
+pub unsafe extern "C" fn bv_bucket_check(
+    schema: *const u8,
+    schema_len: usize,
+    rows: u32,
+    bucket: *const u8,
+    bucket_len: usize,
+) -> u32 {
+    let schema = from_raw_parts(schema, schema_len);
+    match buckets::check(schema, rows, from_raw_parts(bucket, bucket_len)) {
+        Ok(()) => 0,
+        Err(number) => refuse(number),
+    }
+}
+
+/// # Safety
+/// As include/barcovento.h says.
+#[no_mangle]
+pub unsafe extern "C" fn bv_bucket_field(
+    schema: *const u8,
+    schema_len: usize,
+    rows: u32,
+    bucket: *const u8,
+    bucket_len: usize,
+    row: u32,
+    column: u32,
+    kind: *mut u8,
+    whole: *mut i64,
+    bits: *mut u64,
+    nanos: *mut u32,
+    start: *mut usize,
+    length: *mut usize,
+) -> u32 {
+    let schema = from_raw_parts(schema, schema_len);
+    let bucket = from_raw_parts(bucket, bucket_len);
+    let to = FieldPointers { kind, whole, bits, nanos, start, length };
+    answer_field(buckets::field(schema, rows, bucket, row, column), to)
+}
