@@ -126,6 +126,10 @@ fn any_draft(random: &mut Random) -> Draft {
     if rows > 1000 {
         columns.truncate(2);
     }
+    draft_of(random, columns, rows)
+}
+
+fn draft_of(random: &mut Random, columns: Vec<Column>, rows: usize) -> Draft {
     let drafts = columns.iter().map(|column| any_column(random, column, rows)).collect();
     let mut header = [Vec::new(), vec![0]];
     push_varint(columns.len() as u32, &mut header[0]);
@@ -193,6 +197,11 @@ fn fill_dictionary(random: &mut Random, kind: Type, values: usize, draft: &mut C
     let indexes: Vec<usize> = (0..values).map(|_| random.below(entries)).collect();
     draft.indexes = pack_low_first(&indexes, index_width(entries));
     draft.index_count = values;
+}
+
+/// A bucket of these columns and rows.
+pub fn filled(random: &mut Random, columns: &[Column], rows: usize) -> Vec<u8> {
+    draft_of(random, columns.to_vec(), rows).bytes()
 }
 
 pub fn sound(random: &mut Random) -> Case {

@@ -117,6 +117,22 @@ fn any_draft(random: &mut Random) -> Draft {
     Draft::new(columns, rows)
 }
 
+/// A block of these columns, as many rows as the bytes and the rows allow.
+pub fn filled(random: &mut Random, columns: &[Column], bytes: usize, rows: usize) -> Vec<u8> {
+    let mut length = 4;
+    let mut laid = Vec::new();
+    while laid.len() < rows {
+        let row = any_row(random, columns);
+        let row = row_bytes(columns, &row);
+        length += row.len() + 4;
+        if length > bytes {
+            break;
+        }
+        laid.push(row);
+    }
+    Draft::new(columns.to_vec(), laid).bytes()
+}
+
 pub fn sound(random: &mut Random) -> Case {
     let draft = any_draft(random);
     Case {
