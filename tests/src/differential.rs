@@ -28,8 +28,9 @@ impl Tally {
     }
 }
 
-/// One case of a group: a difference is an error that shows the inputs and both answers.
-type RunCase = fn(&mut Random, &mut Tally) -> Result<(), String>;
+/// The case of this number, of which the first few are edges and the others random. A difference is
+/// an error that shows the inputs and both answers.
+type RunCase = fn(u64, &mut Random, &mut Tally) -> Result<(), String>;
 
 pub struct Group {
     pub name: &'static str,

@@ -85,13 +85,19 @@ pub fn run_rows(print: Print) {
 
 #[cfg(feature = "buckets")]
 pub fn run_buckets(print: Print) {
-    use crate::generate::buckets::filled;
+    use crate::generate::buckets::{filled, ALL_NULL, CONST, DICT, PLAIN};
     use crate::reference::buckets as reference;
 
     let mut random = Random::new(4);
-    let (columns, rows) = (mixed_columns(64), 65_536);
+    let rows = 65_536;
+    let mut columns = mixed_columns(64);
+    let tags = [PLAIN, PLAIN, PLAIN, DICT, PLAIN];
+    let mut large = filled(&mut random, &columns, rows as usize, &tags);
+    while large.len() > MAX_BYTES {
+        columns.pop();
+        large = filled(&mut random, &columns, rows as usize, &tags);
+    }
     let schema = schema_bytes(&columns);
-    let large = filled(&mut random, &columns, rows as usize);
     assert_eq!(reference::check(&schema, rows, &large), Ok(()));
     let input = describe(large.len(), rows, columns.len());
     print(measure(
@@ -103,7 +109,8 @@ pub fn run_buckets(print: Print) {
         },
     ));
     let rows = 50;
-    let small = filled(&mut random, &columns, rows as usize);
+    let tags = [PLAIN, CONST, DICT, PLAIN, ALL_NULL];
+    let small = filled(&mut random, &columns, rows as usize, &tags);
     let input = describe(small.len(), rows, columns.len());
     let fields = columns.len() as u32;
     let library = |row, column| bucket_field(&schema, rows, &small, row, column);

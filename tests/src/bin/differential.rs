@@ -61,7 +61,7 @@ fn run_group(group: &Group, arguments: &Arguments) -> Result<(), String> {
     };
     for case in range {
         let mut random = case_random(arguments.seed, group, case);
-        (group.run_case)(&mut random, &mut tally).map_err(|difference| {
+        (group.run_case)(case, &mut random, &mut tally).map_err(|difference| {
             format!(
                 "DIFFERENCE in {}: --seed {} --case {case} {}\n{difference}",
                 group.name, arguments.seed, group.name

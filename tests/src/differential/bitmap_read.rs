@@ -5,12 +5,12 @@ use crate::ffi::{read, Lent};
 use crate::generate::{bitmap as generate, Random};
 use crate::reference::bitmap::{Bitmap, Page};
 
-pub fn run_case(random: &mut Random, tally: &mut Tally) -> Result<(), String> {
+pub fn run_case(case: u64, random: &mut Random, tally: &mut Tally) -> Result<(), String> {
     let set = generate::set(random);
-    let bytes = if random.once_in(2) {
-        generate::sound(random, &set)
-    } else {
-        generate::damaged(random, &set)
+    let bytes = match generate::edge(case) {
+        Some(bytes) => bytes,
+        None if random.once_in(2) => generate::sound(random, &set),
+        None => generate::damaged(random, &set),
     };
     let lent = Lent::input("bytes", &bytes, random);
     let judged = Bitmap::judge(&bytes);

@@ -5,11 +5,13 @@ use crate::ffi::{write, Lent};
 use crate::generate::{bitmap as generate, Random};
 use crate::reference::bitmap::{self as reference, Bitmap};
 
-pub fn run_case(random: &mut Random, tally: &mut Tally) -> Result<(), String> {
-    let mut list = generate::set(random);
-    if random.once_in(5) {
-        list = generate::damaged_list(random, list);
-    }
+pub fn run_case(case: u64, random: &mut Random, tally: &mut Tally) -> Result<(), String> {
+    let set = generate::set(random);
+    let list = match generate::edge_list(case) {
+        Some(list) => list,
+        None if random.once_in(5) => generate::damaged_list(random, set),
+        None => set,
+    };
     let lent = Lent::input("positions", &list, random);
     let mut form = vec![0; LONGEST_FORM];
     let length = reference::write(&list, &mut form).unwrap_or(100);

@@ -6,8 +6,12 @@ use crate::generate::{buckets as generate, Random};
 use crate::reference::buckets::Bucket;
 use crate::reference::schema;
 
-pub fn run_case(random: &mut Random, tally: &mut Tally) -> Result<(), String> {
-    let case = if random.once_in(3) { generate::sound(random) } else { generate::damaged(random) };
+pub fn run_case(case: u64, random: &mut Random, tally: &mut Tally) -> Result<(), String> {
+    let case = match generate::edge(case) {
+        Some(case) => case,
+        None if random.once_in(3) => generate::sound(random),
+        None => generate::damaged(random),
+    };
     let schema = Lent::input("schema", &case.schema, random);
     let bucket = Lent::input("bucket", &case.bucket, random);
     let rows = case.rows;

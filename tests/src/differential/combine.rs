@@ -5,7 +5,7 @@ use crate::ffi::{combine, Lent};
 use crate::generate::{bitmap as generate, Random};
 use crate::reference::bitmap::{self as reference, OPERATIONS};
 
-pub fn run_case(random: &mut Random, tally: &mut Tally) -> Result<(), String> {
+pub fn run_case(_case: u64, random: &mut Random, tally: &mut Tally) -> Result<(), String> {
     let set = generate::set(random);
     let first = any_bitmap(random, &set);
     let other = match random.below(3) {

@@ -12,7 +12,7 @@ struct Input {
     set: Vec<u32>,
 }
 
-pub fn run_case(random: &mut Random, tally: &mut Tally) -> Result<(), String> {
+pub fn run_case(_case: u64, random: &mut Random, tally: &mut Tally) -> Result<(), String> {
     let mut inputs = leaves(random);
     for step in 0..random.between(1, 8) {
         let first = random.below(inputs.len());

@@ -6,8 +6,12 @@ use crate::generate::{rows as generate, Random};
 use crate::reference::rows::Block;
 use crate::reference::schema;
 
-pub fn run_case(random: &mut Random, tally: &mut Tally) -> Result<(), String> {
-    let case = if random.once_in(3) { generate::sound(random) } else { generate::damaged(random) };
+pub fn run_case(case: u64, random: &mut Random, tally: &mut Tally) -> Result<(), String> {
+    let case = match generate::edge(case) {
+        Some(case) => case,
+        None if random.once_in(3) => generate::sound(random),
+        None => generate::damaged(random),
+    };
     let schema = Lent::input("schema", &case.schema, random);
     let block = Lent::input("block", &case.block, random);
     compare_schema(&schema, random)?;

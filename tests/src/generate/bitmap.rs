@@ -479,3 +479,53 @@ pub fn damaged_list(random: &mut Random, mut list: Vec<u32>) -> Vec<u32> {
     }
     list
 }
+
+/// Bitmaps at the largest sizes, and one past them.
+pub fn edge(number: u64) -> Option<Vec<u8>> {
+    match number {
+        0 => Some(longest()),
+        1 => Some(empty_containers(8192)),
+        2 => Some(empty_containers(8193)),
+        3 => Some(full_bitmap([0x00, 0, 32], &[])),
+        _ => None,
+    }
+}
+
+/// Sets at the largest sizes, and one past them.
+pub fn edge_list(number: u64) -> Option<Vec<u32>> {
+    let positions = 0..POSITIONS as u32;
+    match number {
+        0 => Some(positions.collect()),
+        1 => Some(positions.filter(|p| (p >> 8) % 256 != 0 && p % 256 < 32).collect()),
+        2 => Some(vec![2_097_151]),
+        3 => Some(vec![2_097_152]),
+        4 => Some((0..=POSITIONS as u32).collect()),
+        _ => None,
+    }
+}
+
+/// The longest accepted bitmap, 278,598 bytes: useless exceptions and dense containers alone.
+fn longest() -> Vec<u8> {
+    let mut arrays = pack_high_first(&[32; CHUNK], 7);
+    arrays.extend(0..255);
+    arrays.extend([0; 32]);
+    full_bitmap([0x17, 255, 0], &arrays)
+}
+
+/// 8,192 full containers; every chunk has the same bytes.
+fn full_bitmap(head: [u8; 3], arrays: &[u8]) -> Vec<u8> {
+    let mut out = vec![1, 0, 0, 0x20, 0, 0x20];
+    for _ in 0..8192 / CHUNK {
+        out.extend_from_slice(&head);
+        out.extend_from_slice(arrays);
+    }
+    out.resize(out.len() + 32 * 8192, 0xFF);
+    out
+}
+
+fn empty_containers(count: u16) -> Vec<u8> {
+    let mut out = vec![1, 0, 0, 0];
+    out.extend_from_slice(&count.to_le_bytes());
+    out.resize(6 + 3 * usize::from(count).div_ceil(CHUNK), 0);
+    out
+}

@@ -14,15 +14,20 @@ pub struct Case {
     pub bucket: Vec<u8>,
 }
 
-const PLAIN: u8 = 0;
-const CONST: u8 = 1;
-const DICT: u8 = 2;
-const ALL_NULL: u8 = 3;
+/// The columns of a bucket, and for each column what each row holds.
+pub type Content = Vec<(Column, Vec<Option<Value>>)>;
+
+pub const PLAIN: u8 = 0;
+pub const CONST: u8 = 1;
+pub const DICT: u8 = 2;
+pub const ALL_NULL: u8 = 3;
 
 /// One column before it is laid out. It holds only the parts that its encoding has.
 struct ColumnDraft {
     tag: u8,
     has_nulls: bool,
+    /// What each row holds; nothing stands for null.
+    cells: Vec<Option<Value>>,
     constant: Vec<u8>,
     /// The number of entries as it is written, then each entry.
     table: Vec<Vec<u8>>,
@@ -102,9 +107,9 @@ fn push_value(kind: Type, value: &Value, out: &mut Vec<u8>) {
     }
 }
 
-fn any_value(random: &mut Random, kind: Type) -> Vec<u8> {
+fn value_bytes(kind: Type, value: &Value) -> Vec<u8> {
     let mut out = Vec::new();
-    push_value(kind, &value(random, kind), &mut out);
+    push_value(kind, value, &mut out);
     out
 }
 
@@ -126,11 +131,17 @@ fn any_draft(random: &mut Random) -> Draft {
     if rows > 1000 {
         columns.truncate(2);
     }
-    draft_of(random, columns, rows)
+    let tags: Vec<u8> = columns.iter().map(|_| random.below(4) as u8).collect();
+    draft_of(random, columns, rows, &tags)
 }
 
-fn draft_of(random: &mut Random, columns: Vec<Column>, rows: usize) -> Draft {
-    let drafts = columns.iter().map(|column| any_column(random, column, rows)).collect();
+/// A sound bucket; the tags go round over the columns.
+fn draft_of(random: &mut Random, columns: Vec<Column>, rows: usize, tags: &[u8]) -> Draft {
+    let drafts = columns
+        .iter()
+        .zip(tags.iter().cycle())
+        .map(|(column, &tag)| any_column(random, column, rows, tag))
+        .collect();
     let mut header = [Vec::new(), vec![0]];
     push_varint(columns.len() as u32, &mut header[0]);
     Draft {
@@ -144,14 +155,12 @@ fn draft_of(random: &mut Random, columns: Vec<Column>, rows: usize) -> Draft {
     }
 }
 
-fn any_column(random: &mut Random, column: &Column, rows: usize) -> ColumnDraft {
-    let mut tag = random.below(4) as u8;
-    if tag == ALL_NULL && !column.nullable && rows > 0 {
-        tag = PLAIN;
-    }
+fn any_column(random: &mut Random, column: &Column, rows: usize, tag: u8) -> ColumnDraft {
+    let tag = if tag == ALL_NULL && !column.nullable && rows > 0 { PLAIN } else { tag };
     let mut draft = ColumnDraft {
         tag,
         has_nulls: random.once_in(2),
+        cells: vec![None; rows],
         constant: Vec::new(),
         table: Vec::new(),
         nulls: Vec::new(),
@@ -162,55 +171,78 @@ fn any_column(random: &mut Random, column: &Column, rows: usize) -> ColumnDraft 
     if tag == ALL_NULL {
         return draft;
     }
-    let mut values = rows;
+    let share = random.pick(&[1, 2, 5, 1000]);
+    let nulls: Vec<usize> = (0..rows)
+        .map(|_| usize::from(draft.has_nulls && column.nullable && random.once_in(share)))
+        .collect();
     if draft.has_nulls {
-        let share = random.pick(&[1, 2, 5, 1000]);
-        let nulls: Vec<usize> =
-            (0..rows).map(|_| usize::from(column.nullable && random.once_in(share))).collect();
-        values -= nulls.iter().sum::<usize>();
         draft.nulls = pack_low_first(&nulls, 1);
     }
+    let filled: Vec<usize> = (0..rows).filter(|&row| nulls[row] == 0).collect();
     match tag {
-        PLAIN => draft.plain = (0..values).map(|_| any_value(random, column.kind)).collect(),
-        CONST => draft.constant = any_value(random, column.kind),
-        _ => fill_dictionary(random, column.kind, values, &mut draft),
+        PLAIN => fill_plain(random, column.kind, &filled, &mut draft),
+        CONST => {
+            let value = value(random, column.kind);
+            draft.constant = value_bytes(column.kind, &value);
+            filled.iter().for_each(|&row| draft.cells[row] = Some(value.clone()));
+        }
+        _ => fill_dictionary(random, column.kind, &filled, &mut draft),
     }
     draft
+}
+
+fn fill_plain(random: &mut Random, kind: Type, filled: &[usize], draft: &mut ColumnDraft) {
+    for &row in filled {
+        let value = value(random, kind);
+        draft.plain.push(value_bytes(kind, &value));
+        draft.cells[row] = Some(value);
+    }
 }
 
 fn index_width(entries: usize) -> usize {
     (1..=8).find(|&width| entries <= 1 << width).unwrap_or(8)
 }
 
-fn fill_dictionary(random: &mut Random, kind: Type, values: usize, draft: &mut ColumnDraft) {
-    let entries = match random.below(10) {
+fn fill_dictionary(random: &mut Random, kind: Type, filled: &[usize], draft: &mut ColumnDraft) {
+    let count = match random.below(10) {
         0 => random.between(2, 255),
         1 => random.pick(&[8, 9, 16, 17, 127, 128, 129, 254, 255]),
         _ => random.between(2, 5),
     };
+    let entries: Vec<Value> = (0..count).map(|_| value(random, kind)).collect();
     let mut number = Vec::new();
-    push_varint(entries as u32, &mut number);
+    push_varint(count as u32, &mut number);
     draft.table.push(number);
-    for _ in 0..entries {
-        draft.table.push(any_value(random, kind));
+    draft.table.extend(entries.iter().map(|entry| value_bytes(kind, entry)));
+    let mut indexes = Vec::new();
+    for &row in filled {
+        let index = random.below(count);
+        indexes.push(index);
+        draft.cells[row] = Some(entries[index].clone());
     }
-    let indexes: Vec<usize> = (0..values).map(|_| random.below(entries)).collect();
-    draft.indexes = pack_low_first(&indexes, index_width(entries));
-    draft.index_count = values;
+    draft.indexes = pack_low_first(&indexes, index_width(count));
+    draft.index_count = filled.len();
 }
 
-/// A bucket of these columns and rows.
-pub fn filled(random: &mut Random, columns: &[Column], rows: usize) -> Vec<u8> {
-    draft_of(random, columns.to_vec(), rows).bytes()
+/// A bucket of these columns and rows; the tags go round over the columns.
+pub fn filled(random: &mut Random, columns: &[Column], rows: usize, tags: &[u8]) -> Vec<u8> {
+    draft_of(random, columns.to_vec(), rows, tags).bytes()
 }
 
-pub fn sound(random: &mut Random) -> Case {
+/// A sound bucket and what it holds.
+pub fn sound_with_content(random: &mut Random) -> (Case, Content) {
     let draft = any_draft(random);
-    Case {
+    let case = Case {
         schema: schema_bytes(&draft.columns),
         rows: draft.rows as u32,
         bucket: draft.bytes(),
-    }
+    };
+    let cells = draft.drafts.into_iter().map(|column| column.cells);
+    (case, draft.columns.into_iter().zip(cells).collect())
+}
+
+pub fn sound(random: &mut Random) -> Case {
+    sound_with_content(random).0
 }
 
 /// A bucket damaged once or twice, mostly towards a certain refusal.
@@ -406,4 +438,24 @@ fn add_null(random: &mut Random, draft: &mut Draft) {
     }
     let row = random.below(draft.rows);
     column.nulls[row / 8] |= 1 << (row % 8);
+}
+
+/// Buckets at the largest sizes, and one past them.
+pub fn edge(number: u64) -> Option<Case> {
+    let bytes_column = vec![1, 13, 0];
+    let case = |schema, rows, bucket| Some(Case { schema, rows, bucket });
+    match number {
+        0 => case(vec![1, 1, 0], 65_536, [vec![1, 0, 0, 0], vec![7; 65_536]].concat()),
+        1 => case(vec![1, 1, 0], 65_537, [vec![1, 0, 0, 0], vec![7; 65_537]].concat()),
+        2 => case(bytes_column, 1, one_value(16_777_216)),
+        3 => case(bytes_column, 1, one_value(16_777_217)),
+        _ => None,
+    }
+}
+
+/// A bucket of this many bytes with one long value.
+fn one_value(length: usize) -> Vec<u8> {
+    let mut out = vec![1, 0, 0, 0];
+    push_counted(&vec![0xAB; length - 8], &mut out);
+    out
 }

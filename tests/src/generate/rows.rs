@@ -14,7 +14,7 @@ pub struct Case {
 }
 
 /// One row before it is laid out: nothing stands for null.
-type Row = Vec<Option<Value>>;
+pub type Row = Vec<Option<Value>>;
 
 /// A block part by part, before damage.
 struct Draft {
@@ -106,15 +106,16 @@ fn push_field(kind: Type, value: &Value, out: &mut Vec<u8>) {
     }
 }
 
-fn any_draft(random: &mut Random) -> Draft {
+fn any_rows(random: &mut Random) -> (Vec<Column>, Vec<Row>) {
     let columns = columns(random);
-    let rows = (0..row_count(random))
-        .map(|_| {
-            let row = any_row(random, &columns);
-            row_bytes(&columns, &row)
-        })
-        .collect();
-    Draft::new(columns, rows)
+    let rows = (0..row_count(random)).map(|_| any_row(random, &columns)).collect();
+    (columns, rows)
+}
+
+fn any_draft(random: &mut Random) -> Draft {
+    let (columns, rows) = any_rows(random);
+    let laid = rows.iter().map(|row| row_bytes(&columns, row)).collect();
+    Draft::new(columns, laid)
 }
 
 /// A block of these columns, as many rows as the bytes and the rows allow.
@@ -133,12 +134,20 @@ pub fn filled(random: &mut Random, columns: &[Column], bytes: usize, rows: usize
     Draft::new(columns.to_vec(), laid).bytes()
 }
 
-pub fn sound(random: &mut Random) -> Case {
-    let draft = any_draft(random);
-    Case {
+/// A sound block and what it holds.
+pub fn sound_with_content(random: &mut Random) -> (Case, Vec<Column>, Vec<Row>) {
+    let (columns, rows) = any_rows(random);
+    let laid = rows.iter().map(|row| row_bytes(&columns, row)).collect();
+    let draft = Draft::new(columns, laid);
+    let case = Case {
         schema: schema_bytes(&draft.columns),
         block: draft.bytes(),
-    }
+    };
+    (case, draft.columns, rows)
+}
+
+pub fn sound(random: &mut Random) -> Case {
+    sound_with_content(random).0
 }
 
 /// A block damaged once or twice, mostly towards a certain refusal.
@@ -260,4 +269,29 @@ fn bad_field(random: &mut Random, kind: Type) -> Option<Vec<u8>> {
         | Type::Decimal { .. } => Some(bad_counted(random, kind)),
         _ => None,
     }
+}
+
+/// Blocks at the largest sizes, and one past them.
+pub fn edge(number: u64) -> Option<Case> {
+    let tiny = vec![1, 1, 1];
+    let bytes_column = vec![1, 13, 0];
+    let case = |schema, block| Some(Case { schema, block });
+    match number {
+        0 => case(tiny, all_null_rows(65_536)),
+        1 => case(tiny, all_null_rows(65_537)),
+        2 => case(bytes_column, one_field(16_777_216)),
+        3 => case(bytes_column, one_field(16_777_217)),
+        _ => None,
+    }
+}
+
+fn all_null_rows(count: usize) -> Vec<u8> {
+    Draft::new(Vec::new(), vec![vec![1]; count]).bytes()
+}
+
+/// A block of this many bytes with one long field.
+fn one_field(length: usize) -> Vec<u8> {
+    let mut row = vec![0];
+    push_counted(&vec![0xAB; length - 13], &mut row);
+    Draft::new(Vec::new(), vec![row]).bytes()
 }

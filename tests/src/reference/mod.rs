@@ -8,6 +8,11 @@ pub mod rows;
 pub mod schema;
 pub mod varint;
 
+#[cfg(test)]
+mod agreement;
+#[cfg(test)]
+mod samples;
+
 /// A refusal number of document 01.
 pub type Refusal = u32;
 
