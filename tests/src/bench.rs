@@ -1,7 +1,6 @@
 //! What the benchmark measures.
 
 use crate::generate::Random;
-use std::time::{Duration, Instant};
 
 #[cfg(feature = "combine")]
 mod combine;
@@ -42,22 +41,49 @@ pub fn groups() -> Vec<fn(Print)> {
     ]
 }
 
-const RUNS: usize = 15;
-const RUN: Duration = Duration::from_millis(3);
+const RUNS: usize = 41;
+/// Seconds that a run takes at least.
+const RUN: f64 = 0.002;
+
+#[repr(C)]
+struct TimeSpec {
+    seconds: i64,
+    nanoseconds: i64,
+}
+
+const CLOCK_THREAD_CPUTIME_ID: i32 = 3;
+
+extern "C" {
+    fn clock_gettime(clock: i32, time: *mut TimeSpec) -> i32;
+}
+
+/// The CPU time of this thread in seconds: other processes on the machine don't count.
+fn cpu_seconds() -> f64 {
+    let mut time = TimeSpec {
+        seconds: 0,
+        nanoseconds: 0,
+    };
+    let code = unsafe { clock_gettime(CLOCK_THREAD_CPUTIME_ID, &mut time) };
+    assert_eq!(code, 0, "no CPU clock");
+    time.seconds as f64 + time.nanoseconds as f64 * 1e-9
+}
 
 /// Seconds for one call, over `calls` calls.
 fn once(calls: u32, call: &mut dyn FnMut()) -> f64 {
-    let start = Instant::now();
+    let start = cpu_seconds();
     for _ in 0..calls {
         call();
     }
-    start.elapsed().as_secs_f64() / f64::from(calls)
+    (cpu_seconds() - start) / f64::from(calls)
 }
 
 /// How many calls make a run.
 fn calls(call: &mut dyn FnMut()) -> u32 {
-    let one = once(1, call).max(1e-9);
-    ((RUN.as_secs_f64() / one) as u32).clamp(1, 100_000)
+    let mut calls = 1;
+    while once(calls, call) * f64::from(calls) < RUN {
+        calls *= 2;
+    }
+    calls
 }
 
 fn median(mut values: Vec<f64>) -> f64 {
@@ -65,7 +91,7 @@ fn median(mut values: Vec<f64>) -> f64 {
     values[values.len() / 2]
 }
 
-/// Measures both sides by turns.
+/// Measures both sides by turns, and which one begins by turns too.
 fn measure(
     call: &str,
     input: &str,
@@ -74,10 +100,17 @@ fn measure(
 ) -> Line {
     let library_calls = calls(library);
     let reference_calls = calls(reference);
-    let runs = if library_calls == 1 { 5 } else { RUNS };
-    let pairs: Vec<(f64, f64)> = (0..runs)
-        .map(|_| (once(library_calls, library), once(reference_calls, reference)))
-        .collect();
+    let slow = once(1, reference) > 0.1 || once(1, library) > 0.1;
+    let mut pairs = Vec::new();
+    for run in 0..if slow { 5 } else { RUNS } {
+        if run % 2 == 0 {
+            let first = once(library_calls, library);
+            pairs.push((first, once(reference_calls, reference)));
+        } else {
+            let first = once(reference_calls, reference);
+            pairs.push((once(library_calls, library), first));
+        }
+    }
     Line {
         call: call.to_string(),
         input: input.to_string(),

@@ -28,8 +28,8 @@ impl Tally {
     }
 }
 
-/// The case of this number, of which the first few are edges and the others random. A difference is
-/// an error that shows the inputs and both answers.
+/// The case of this number: some are edges, the others random. A difference is an error that shows
+/// the inputs and both answers.
 type RunCase = fn(u64, &mut Random, &mut Tally) -> Result<(), String>;
 
 pub struct Group {
@@ -86,6 +86,13 @@ pub fn groups() -> Vec<Group> {
             run_case: buckets::run_case,
         },
     ]
+}
+
+/// The cases from here on are the edges of a group, as many as it has.
+const FIRST_EDGE: u64 = 1000;
+
+fn edge_number(case: u64) -> Option<u64> {
+    case.checked_sub(FIRST_EDGE)
 }
 
 /// Each case has its own random numbers, so it can be run again alone.

@@ -27,7 +27,8 @@ fn print(line: &Line) {
 }
 
 fn main() {
-    println!("Medians of interleaved runs; output buffers are not cleared between calls; baseline x86-64.");
+    println!("CPU time of one call, medians of interleaved runs, baseline x86-64 code, opt-level 3.");
+    println!("Output buffers are allocated beforehand and not cleared between calls.");
     println!("Ratio: the library's time by the second program's, under 1 is faster.");
     println!();
     println!("| call | input | library | second program | ratio | CRoaring |");

@@ -1,13 +1,13 @@
 //! Check, probe, rank and pages.
 
-use super::{hex, same, Tally};
+use super::{edge_number, hex, same, Tally};
 use crate::ffi::{read, Lent};
 use crate::generate::{bitmap as generate, Random};
 use crate::reference::bitmap::{Bitmap, Page};
 
 pub fn run_case(case: u64, random: &mut Random, tally: &mut Tally) -> Result<(), String> {
     let set = generate::set(random);
-    let bytes = match generate::edge(case) {
+    let bytes = match edge_number(case).and_then(generate::edge) {
         Some(bytes) => bytes,
         None if random.once_in(2) => generate::sound(random, &set),
         None => generate::damaged(random, &set),

@@ -1,13 +1,13 @@
 //! Writing lists of positions.
 
-use super::{room_around, same, short, Tally, LONGEST_FORM};
+use super::{edge_number, room_around, same, short, Tally, LONGEST_FORM};
 use crate::ffi::{write, Lent};
 use crate::generate::{bitmap as generate, Random};
 use crate::reference::bitmap::{self as reference, Bitmap};
 
 pub fn run_case(case: u64, random: &mut Random, tally: &mut Tally) -> Result<(), String> {
     let set = generate::set(random);
-    let list = match generate::edge_list(case) {
+    let list = match edge_number(case).and_then(generate::edge_list) {
         Some(list) => list,
         None if random.once_in(5) => generate::damaged_list(random, set),
         None => set,

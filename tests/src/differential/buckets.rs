@@ -1,13 +1,13 @@
 //! Buckets.
 
-use super::{any_index, hex, same, Tally};
+use super::{any_index, edge_number, hex, same, Tally};
 use crate::ffi::{buckets, Field, Lent};
 use crate::generate::{buckets as generate, Random};
 use crate::reference::buckets::Bucket;
 use crate::reference::schema;
 
 pub fn run_case(case: u64, random: &mut Random, tally: &mut Tally) -> Result<(), String> {
-    let case = match generate::edge(case) {
+    let case = match edge_number(case).and_then(generate::edge) {
         Some(case) => case,
         None if random.once_in(3) => generate::sound(random),
         None => generate::damaged(random),

@@ -1,13 +1,13 @@
 //! Schemas and row blocks.
 
-use super::{any_index, hex, same, Tally};
+use super::{any_index, edge_number, hex, same, Tally};
 use crate::ffi::{rows, Field, Lent};
 use crate::generate::{rows as generate, Random};
 use crate::reference::rows::Block;
 use crate::reference::schema;
 
 pub fn run_case(case: u64, random: &mut Random, tally: &mut Tally) -> Result<(), String> {
-    let case = match generate::edge(case) {
+    let case = match edge_number(case).and_then(generate::edge) {
         Some(case) => case,
         None if random.once_in(3) => generate::sound(random),
         None => generate::damaged(random),

@@ -217,8 +217,9 @@ pub fn unpack_chunk<'a>(bytes: &'a [u8], values: &mut [u16]) -> Result<&'a [u8],
     Ok(rest)
 }
 
+/// Strictly rising; without a branch for each byte.
 fn rising(bytes: &[u8]) -> bool {
-    bytes.windows(2).all(|pair| pair[0] < pair[1])
+    bytes.windows(2).fold(true, |rising, pair| rising & (pair[0] < pair[1]))
 }
 
 /// Whether a bit after the first `used` bits is set in the last byte.
@@ -349,63 +350,57 @@ fn list_container(container: &[u8], base: u32, from: u32, list: &mut [u32]) -> (
 
 /// Writes the one form of a list of positions: 12, then 13, else the form's length.
 pub fn write(positions: &[u32], out: &mut [u8]) -> Result<usize, Refusal> {
-    let strict = positions.windows(2).all(|pair| pair[0] < pair[1]);
-    if !strict || positions.last().is_some_and(|&last| last >= POSITIONS) {
+    let strict = positions.windows(2).fold(true, |strict, pair| strict & (pair[0] < pair[1]));
+    let last = positions.last().copied();
+    if !strict || last.is_some_and(|last| last >= POSITIONS) {
         return Err(12);
     }
-    let count = positions.last().map_or(0, |&last| (last >> 8) as usize + 1);
-    let mut sizes = vec![0; count];
-    for &position in positions {
-        let size = &mut sizes[(position >> 8) as usize];
-        *size = DENSE.min(*size + 1);
+    let mut sizes = vec![0; last.map_or(0, |last| (last >> 8) as usize + 1)];
+    let mut containers = Vec::with_capacity(positions.len().min(32 * sizes.len()));
+    let mut rest = positions;
+    while let Some(&first) = rest.first() {
+        let key = first >> 8;
+        let near = &rest[..rest.len().min(256)];
+        let (members, others) = rest.split_at(near.partition_point(|&p| p >> 8 == key));
+        rest = others;
+        let start = containers.len();
+        append_members(members, &mut containers);
+        sizes[key as usize] = (containers.len() - start) as u8;
     }
-    let (mut room, length) = write_head(&sizes, positions.len() as u32, out)?;
-    let mut left = positions;
-    for &size in &sizes {
-        let (container, rest) = room.split_at_mut(usize::from(size));
-        room = rest;
-        left = write_container(left, container);
-    }
-    Ok(length)
+    write_form(&sizes, &containers, positions.len() as u32, out)
 }
 
-/// Writes the members of one container, the first ones of the list, and returns the others.
-fn write_container<'a>(positions: &'a [u32], container: &mut [u8]) -> &'a [u32] {
-    if container.len() < usize::from(DENSE) {
-        let (own, others) = positions.split_at(container.len());
-        for (byte, &position) in container.iter_mut().zip(own) {
-            *byte = position as u8;
-        }
-        return others;
+/// Appends the container of these positions, which differ only in their low byte.
+fn append_members(members: &[u32], out: &mut Vec<u8>) {
+    if members.len() < usize::from(DENSE) {
+        out.extend(members.iter().map(|&position| position as u8));
+        return;
     }
-    let key = positions[0] >> 8;
     let mut words = [0; 4];
-    let mut count = 0;
-    for &position in positions.iter().take_while(|&&position| position >> 8 == key) {
-        set_bit(&mut words, position as u8);
-        count += 1;
+    let mut rest = members;
+    for (k, word) in words.iter_mut().enumerate() {
+        while let Some((&position, others)) = rest.split_first() {
+            if (position >> 6 & 3) as usize != k {
+                break;
+            }
+            *word |= 1 << (63 - position % 64);
+            rest = others;
+        }
     }
-    store_words(&words, container);
-    &positions[count..]
+    append_dense(&words, out);
 }
 
 fn set_bit(words: &mut [u64; 4], low: u8) {
     words[usize::from(low / 64)] |= 1 << (63 - low % 64);
 }
 
-fn store_words(words: &[u64; 4], dense: &mut [u8]) {
-    for (bytes, word) in dense.chunks_exact_mut(8).zip(words) {
-        bytes.copy_from_slice(&word.to_be_bytes());
-    }
-}
-
-/// Writes the header and the descriptors of the form whose containers have these sizes.
-/// Returns the room for exactly these containers, and the length of the whole form; 13 if it does not fit.
-fn write_head<'a>(
+/// Writes the form of these containers; 13 if it does not fit.
+fn write_form(
     sizes: &[u8],
+    containers: &[u8],
     cardinality: u32,
-    out: &'a mut [u8],
-) -> Result<(&'a mut [u8], usize), Refusal> {
+    out: &mut [u8],
+) -> Result<usize, Refusal> {
     let mut head = Vec::with_capacity(6 + sizes.len() + 3 * sizes.len().div_ceil(CHUNK));
     head.push(1);
     head.extend_from_slice(&cardinality.to_le_bytes()[..3]);
@@ -413,14 +408,11 @@ fn write_head<'a>(
     for chunk in sizes.chunks(CHUNK) {
         pack_chunk(chunk, &mut head);
     }
-    let total: usize = sizes.iter().map(|&size| usize::from(size)).sum();
-    let length = head.len() + total;
-    if length > out.len() {
-        return Err(13);
-    }
-    let (first, rest) = out[..length].split_at_mut(head.len());
-    first.copy_from_slice(&head);
-    Ok((rest, length))
+    let length = head.len() + containers.len();
+    let form = out.get_mut(..length).ok_or(13u32)?;
+    form[..head.len()].copy_from_slice(&head);
+    form[head.len()..].copy_from_slice(containers);
+    Ok(length)
 }
 
 /// How a chunk is packed: b1, b2, e and m.
@@ -521,24 +513,20 @@ pub fn combine(
 ) -> Result<usize, Refusal> {
     let first = Bitmap::judge(first)?;
     let second = Bitmap::judge(second)?;
+    let (first, second) = (&first, &second);
     match operation {
-        Operation::Union => combine_with(&first, &second, true, true, |a, b| a | b, out),
-        Operation::Intersection => combine_with(&first, &second, false, false, |a, b| a & b, out),
-        Operation::Difference => combine_with(&first, &second, true, false, |a, b| a & !b, out),
-        Operation::SymmetricDifference => {
-            combine_with(&first, &second, true, true, |a, b| a ^ b, out)
-        }
+        Operation::Union => combine_with::<true, true, true>(first, second, out),
+        Operation::Intersection => combine_with::<false, true, false>(first, second, out),
+        Operation::Difference => combine_with::<true, false, false>(first, second, out),
+        Operation::SymmetricDifference => combine_with::<true, false, true>(first, second, out),
     }
 }
 
-/// Combines container by container. `keep_first` and `keep_second` say whether a container stays
-/// as it is if the other bitmap's is empty; `word` combines 64 positions.
-fn combine_with(
+/// Combines container by container. The result keeps what is only in the first, in both, only in the
+/// second, as the three parameters say.
+fn combine_with<const FIRST: bool, const BOTH: bool, const SECOND: bool>(
     first: &Bitmap,
     second: &Bitmap,
-    keep_first: bool,
-    keep_second: bool,
-    word: impl Fn(u64, u64) -> u64,
     out: &mut [u8],
 ) -> Result<usize, Refusal> {
     let count = first.sizes.len().max(second.sizes.len());
@@ -551,55 +539,121 @@ fn combine_with(
         let (b, next_b) = rest.1.split_at(second.sizes.get(k).map_or(0, |&s| usize::from(s)));
         rest = (next_a, next_b);
         let start = containers.len();
-        if a.is_empty() || b.is_empty() {
-            let kept = match (keep_first, keep_second) {
+        cardinality += if a.is_empty() || b.is_empty() {
+            let kept = match (FIRST, SECOND) {
                 (true, _) if b.is_empty() => a,
                 (_, true) if a.is_empty() => b,
                 _ => &[],
             };
             containers.extend_from_slice(kept);
-            cardinality += members(kept);
+            members(kept)
+        } else if !SECOND && a.len() < usize::from(DENSE) {
+            filter_sparse(a, &container_words(b), BOTH, &mut containers)
+        } else if a.len() < usize::from(DENSE) && b.len() < usize::from(DENSE) {
+            merge_sparse::<FIRST, BOTH, SECOND>(a, b, &mut containers)
         } else {
             let (a, b) = (container_words(a), container_words(b));
-            let result = [0, 1, 2, 3].map(|i| word(a[i], b[i]));
-            cardinality += append_container(&result, &mut containers);
-        }
+            let result = [0, 1, 2, 3].map(|i| {
+                let only_first = if FIRST { a[i] & !b[i] } else { 0 };
+                let both = if BOTH { a[i] & b[i] } else { 0 };
+                let only_second = if SECOND { b[i] & !a[i] } else { 0 };
+                only_first | both | only_second
+            });
+            append_words(&result, &mut containers)
+        };
         sizes.push((containers.len() - start) as u8);
     }
     let used = sizes.iter().rposition(|&size| size > 0).map_or(0, |last| last + 1);
-    let (room, length) = write_head(&sizes[..used], cardinality, out)?;
-    room.copy_from_slice(&containers);
-    Ok(length)
+    write_form(&sizes[..used], &containers, cardinality, out)
+}
+
+/// Appends the members of a sparse container that are in the other one, or those that are not, and
+/// returns how many they are.
+fn filter_sparse(members: &[u8], other: &[u64; 4], wanted: bool, out: &mut Vec<u8>) -> u32 {
+    let mut kept = [0; 32];
+    let mut n = 0;
+    for &member in members {
+        kept[n & 31] = member;
+        let found = other[usize::from(member / 64)] << (member % 64) >> 63 == 1;
+        n += usize::from(found == wanted);
+    }
+    out.extend_from_slice(&kept[..n]);
+    n as u32
+}
+
+/// Merges two sparse containers, without a branch for each member, appends the result, and returns
+/// how many members it has.
+fn merge_sparse<const FIRST: bool, const BOTH: bool, const SECOND: bool>(
+    a: &[u8],
+    b: &[u8],
+    out: &mut Vec<u8>,
+) -> u32 {
+    let mut merged = [0; 64];
+    let (mut i, mut j, mut n) = (0, 0, 0);
+    while i < a.len() && j < b.len() {
+        let (x, y) = (a[i], b[j]);
+        merged[n & 63] = x.min(y);
+        let kept = (FIRST & (x < y)) | (BOTH & (x == y)) | (SECOND & (x > y));
+        n += usize::from(kept);
+        i += usize::from(x <= y);
+        j += usize::from(y <= x);
+    }
+    for (tail, keep) in [(&a[i..], FIRST), (&b[j..], SECOND)] {
+        if keep {
+            merged[n..n + tail.len()].copy_from_slice(tail);
+            n += tail.len();
+        }
+    }
+    if n < usize::from(DENSE) {
+        out.extend_from_slice(&merged[..n]);
+    } else {
+        append_dense(&container_bits(&merged[..n]), out);
+    }
+    n as u32
+}
+
+fn append_dense(words: &[u64; 4], out: &mut Vec<u8>) {
+    for word in words {
+        out.extend_from_slice(&word.to_be_bytes());
+    }
 }
 
 fn container_words(container: &[u8]) -> [u64; 4] {
     if container.len() == usize::from(DENSE) {
-        return words(container);
+        words(container)
+    } else {
+        container_bits(container)
     }
+}
+
+/// The bits of a list of members.
+fn container_bits(members: &[u8]) -> [u64; 4] {
     let mut words = [0; 4];
-    for &member in container {
+    for &member in members {
         set_bit(&mut words, member);
     }
     words
 }
 
 /// Appends the container of these bits, sparse or dense, and returns how many members it has.
-fn append_container(words: &[u64; 4], out: &mut Vec<u8>) -> u32 {
+fn append_words(words: &[u64; 4], out: &mut Vec<u8>) -> u32 {
     let count = words.iter().map(|word| word.count_ones()).sum();
     if count >= u32::from(DENSE) {
-        for word in words {
-            out.extend_from_slice(&word.to_be_bytes());
-        }
+        append_dense(words, out);
         return count;
     }
+    let mut sparse = [0; 32];
+    let mut given = 0;
     for (k, &word) in words.iter().enumerate() {
         let mut word = word;
         while word != 0 {
             let bit = word.leading_zeros();
-            out.push((k as u32 * 64 + bit) as u8);
+            sparse[given & 31] = (k as u32 * 64 + bit) as u8;
+            given += 1;
             word ^= 1 << (63 - bit);
         }
     }
+    out.extend_from_slice(&sparse[..given]);
     count
 }
 
