@@ -23,8 +23,5 @@ fn main() {
     };
     println!("cargo:rustc-link-search=native={}", directory.display());
     println!("cargo:rustc-link-lib=static=c_api");
-    println!(
-        "cargo:rerun-if-changed={}",
-        directory.join("libc_api.a").display()
-    );
+    println!("cargo:rerun-if-changed={}", directory.join("libc_api.a").display());
 }

@@ -59,10 +59,7 @@ extern "C" {
 
 /// The CPU time of this thread in seconds: other processes on the machine don't count.
 fn cpu_seconds() -> f64 {
-    let mut time = TimeSpec {
-        seconds: 0,
-        nanoseconds: 0,
-    };
+    let mut time = TimeSpec { seconds: 0, nanoseconds: 0 };
     let code = unsafe { clock_gettime(CLOCK_THREAD_CPUTIME_ID, &mut time) };
     assert_eq!(code, 0, "no CPU clock");
     time.seconds as f64 + time.nanoseconds as f64 * 1e-9
@@ -124,7 +121,7 @@ fn measure(
 /// Each position of the first containers with this chance.
 fn random_set(random: &mut Random, containers: usize, chance: f64) -> Vec<u32> {
     let limit = (chance * u64::MAX as f64) as u64;
-    (0..containers as u32 * 256).filter(|_| random.next() <= limit).collect()
+    (0..containers as u32 * 256).filter(|_| random.word() <= limit).collect()
 }
 
 /// The bitmaps of the reading and writing lines.

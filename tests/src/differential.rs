@@ -65,12 +65,7 @@ pub fn groups() -> Vec<Group> {
             run_case: combine::run_case,
         },
         #[cfg(feature = "combine")]
-        Group {
-            name: "plans",
-            refusals: &[13],
-            default_cases: 10_000,
-            run_case: plans::run_case,
-        },
+        Group { name: "plans", refusals: &[13], default_cases: 10_000, run_case: plans::run_case },
         #[cfg(feature = "rows")]
         Group {
             name: "rows",
@@ -97,11 +92,12 @@ fn edge_number(case: u64) -> Option<u64> {
 
 /// Each case has its own random numbers, so it can be run again alone.
 pub fn case_random(seed: u64, group: &Group, case: u64) -> Random {
-    let name = group.name.bytes().fold(0u64, |sum, byte| {
-        sum.wrapping_mul(0x100_0000_01B3).wrapping_add(u64::from(byte))
-    });
+    let name = group
+        .name
+        .bytes()
+        .fold(0u64, |sum, byte| sum.wrapping_mul(0x100_0000_01B3).wrapping_add(u64::from(byte)));
     let mut first = Random::new(seed ^ name);
-    Random::new(first.next() ^ case.wrapping_mul(0xA076_1D64_78BD_642F))
+    Random::new(first.word() ^ case.wrapping_mul(0xA076_1D64_78BD_642F))
 }
 
 const SHOWN: usize = 4000;
@@ -136,11 +132,9 @@ fn same<T: Debug + PartialEq>(
             short(&answer),
             short(&reference)
         )),
-        Err(harm) => Err(format!(
-            "{}\nlibrary:   {harm}\nreference: {}",
-            question(),
-            short(&reference)
-        )),
+        Err(harm) => {
+            Err(format!("{}\nlibrary:   {harm}\nreference: {}", question(), short(&reference)))
+        }
     }
 }
 

@@ -2,6 +2,7 @@
 //! did to the caller's memory.
 
 use crate::generate::Random;
+use std::ptr::NonNull;
 
 /// What a call answered: its outputs or its refusal. The outer error tells of harmed memory.
 pub type Called<T> = Result<Result<T, u32>, String>;
@@ -31,26 +32,22 @@ pub struct Lent<T> {
     before: Vec<T>,
     start: usize,
     length: usize,
+    /// An empty slice may be lent with a pointer to no memory at all.
+    dangling: bool,
 }
 
 impl<T: Cell> Lent<T> {
     /// An output: every cell holds a random pattern.
     pub fn output(name: &'static str, length: usize, random: &mut Random) -> Self {
         let start = random.between(1, GUARD);
-        let mut pattern = random.next();
+        let mut pattern = random.word();
         let cells: Vec<T> = (0..start + length + GUARD)
             .map(|_| {
                 pattern = pattern.rotate_left(9).wrapping_add(0x9E37_79B9_7F4A_7C15);
                 T::from_bits(pattern)
             })
             .collect();
-        Lent {
-            name,
-            before: cells.clone(),
-            cells,
-            start,
-            length,
-        }
+        Lent { name, before: cells.clone(), cells, start, length, dangling: random.once_in(2) }
     }
 
     pub fn input(name: &'static str, content: &[T], random: &mut Random) -> Self {
@@ -76,10 +73,16 @@ impl<T: Cell> Lent<T> {
     }
 
     fn pointer(&self) -> *const T {
+        if self.length == 0 && self.dangling {
+            return NonNull::dangling().as_ptr();
+        }
         self.content().as_ptr()
     }
 
     fn pointer_mut(&mut self) -> *mut T {
+        if self.length == 0 && self.dangling {
+            return NonNull::dangling().as_ptr();
+        }
         self.cells[self.start..].as_mut_ptr()
     }
 }
@@ -350,14 +353,7 @@ pub struct Field {
 impl From<crate::reference::Answer> for Field {
     fn from(answer: crate::reference::Answer) -> Field {
         use crate::reference::Answer;
-        let mut field = Field {
-            kind: 0,
-            whole: 0,
-            bits: 0,
-            nanos: 0,
-            start: 0,
-            length: 0,
-        };
+        let mut field = Field { kind: 0, whole: 0, bits: 0, nanos: 0, start: 0, length: 0 };
         match answer {
             Answer::Null => {}
             Answer::YesNo(yes) => (field.kind, field.whole) = (1, yes.into()),
@@ -569,13 +565,7 @@ pub mod buckets {
 
     pub fn bucket_check(schema: &Lent<u8>, rows: u32, bucket: &Lent<u8>) -> Called<()> {
         let code = unsafe {
-            bv_bucket_check(
-                schema.pointer(),
-                schema.length,
-                rows,
-                bucket.pointer(),
-                bucket.length,
-            )
+            bv_bucket_check(schema.pointer(), schema.length, rows, bucket.pointer(), bucket.length)
         };
         settle(code, &[schema, bucket], &[], || ())
     }

@@ -48,15 +48,7 @@ fn line(operation: Operation, name: &str, first: &[u32], second: &[u32]) -> Line
 fn combine(call: Call, a: &[u8], b: &[u8], out: &mut [u8]) {
     let mut length = 0;
     let code = unsafe {
-        call(
-            a.as_ptr(),
-            a.len(),
-            b.as_ptr(),
-            b.len(),
-            out.as_mut_ptr(),
-            out.len(),
-            &mut length,
-        )
+        call(a.as_ptr(), a.len(), b.as_ptr(), b.len(), out.as_mut_ptr(), out.len(), &mut length)
     };
     black_box((code, length));
 }

@@ -32,10 +32,7 @@ fn mixed_columns(count: usize) -> Vec<Column> {
         Type::Timestamp { precision: 3 },
         Type::Timestamp { precision: 9 },
     ];
-    let column = |i: usize| Column {
-        kind: types[i % types.len()],
-        nullable: i % 2 == 0,
-    };
+    let column = |i: usize| Column { kind: types[i % types.len()], nullable: i.is_multiple_of(2) };
     (0..count).map(column).collect()
 }
 
@@ -45,14 +42,7 @@ fn describe(bytes: usize, rows: u32, columns: usize) -> String {
 
 /// What a field call sets.
 fn empty_field() -> Field {
-    Field {
-        kind: 0,
-        whole: 0,
-        bits: 0,
-        nanos: 0,
-        start: 0,
-        length: 0,
-    }
+    Field { kind: 0, whole: 0, bits: 0, nanos: 0, start: 0, length: 0 }
 }
 
 #[cfg(feature = "rows")]

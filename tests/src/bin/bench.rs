@@ -27,7 +27,9 @@ fn print(line: &Line) {
 }
 
 fn main() {
-    println!("CPU time of one call, medians of interleaved runs, baseline x86-64 code, opt-level 3.");
+    println!(
+        "CPU time of one call, medians of interleaved runs, baseline x86-64 code, opt-level 3."
+    );
     println!("Output buffers are allocated beforehand and not cleared between calls.");
     println!("Ratio: the library's time by the second program's, under 1 is faster.");
     println!();

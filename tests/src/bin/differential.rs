@@ -1,7 +1,8 @@
-//! differential [--seed S] [--cases N] [--case K] [GROUP...]
+//! differential [--seed S] [--cases N] [--case K] [--trace] [GROUP...]
 //!
 //! Compares the library with the second program. Ends at the first difference, with the seed and the
-//! number of the case: `--seed S --case K GROUP` runs that case alone.
+//! number of the case: `--seed S --case K GROUP` runs that case alone. `--trace` prints the number of
+//! each case before it runs, for a case that does not come back.
 
 use second_program::differential::{case_random, groups, Group, Tally};
 use std::process::ExitCode;
@@ -14,16 +15,13 @@ struct Arguments {
     seed: u64,
     cases: Option<u64>,
     case: Option<u64>,
+    trace: bool,
     groups: Vec<String>,
 }
 
 fn arguments() -> Result<Arguments, String> {
-    let mut arguments = Arguments {
-        seed: 20_261_115,
-        cases: None,
-        case: None,
-        groups: Vec::new(),
-    };
+    let mut arguments =
+        Arguments { seed: 20_261_115, cases: None, case: None, trace: false, groups: Vec::new() };
     let mut words = std::env::args().skip(1);
     while let Some(word) = words.next() {
         let mut number = || {
@@ -34,6 +32,7 @@ fn arguments() -> Result<Arguments, String> {
             "--seed" => arguments.seed = number()?,
             "--cases" => arguments.cases = Some(number()?),
             "--case" => arguments.case = Some(number()?),
+            "--trace" => arguments.trace = true,
             _ => arguments.groups.push(word),
         }
     }
@@ -60,6 +59,9 @@ fn run_group(group: &Group, arguments: &Arguments) -> Result<(), String> {
         None => 0..cases,
     };
     for case in range {
+        if arguments.trace {
+            eprintln!("{} {case}", group.name);
+        }
         let mut random = case_random(arguments.seed, group, case);
         (group.run_case)(case, &mut random, &mut tally).map_err(|difference| {
             format!(

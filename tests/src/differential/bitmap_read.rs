@@ -36,7 +36,7 @@ pub fn run_case(case: u64, random: &mut Random, tally: &mut Tally) -> Result<(),
 fn any_position(random: &mut Random, set: &[u32]) -> u32 {
     let member = if set.is_empty() { 0 } else { random.pick(set) };
     match random.below(9) {
-        0 => random.next() as u32,
+        0 => random.word() as u32,
         1 => random.below(2_097_152) as u32,
         2 => random.pick(&[0, 255, 256, 2_097_151, 2_097_152, u32::MAX]),
         3 => member + (1 << random.between(21, 31)),

@@ -19,9 +19,8 @@ pub fn run_case(case: u64, random: &mut Random, tally: &mut Tally) -> Result<(),
     let judged = Bucket::judge(&case.schema, rows, &case.bucket);
     let expected = judged.as_ref().map(|_| ()).map_err(|&refusal| refusal);
     tally.count(&expected);
-    let text = || {
-        format!("\nrows {rows}, schema {}\nbucket {}", hex(&case.schema), hex(&case.bucket))
-    };
+    let text =
+        || format!("\nrows {rows}, schema {}\nbucket {}", hex(&case.schema), hex(&case.bucket));
     let question = || format!("bucket check{}", text());
     same(question, buckets::bucket_check(&schema, rows, &bucket), expected)?;
 

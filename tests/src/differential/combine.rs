@@ -26,9 +26,8 @@ pub fn run_case(_case: u64, random: &mut Random, tally: &mut Tally) -> Result<()
             let expected = reference::combine(operation, &first, second, &mut out)
                 .map(|length| out[..length].to_vec());
             tally.count(&expected);
-            let question = || {
-                format!("{operation:?} with room {room}\na {}\nb {}", hex(&first), hex(second))
-            };
+            let question =
+                || format!("{operation:?} with room {room}\na {}\nb {}", hex(&first), hex(second));
             same(question, combine::combine(operation, &a, b, room, random), expected)?;
         }
     }

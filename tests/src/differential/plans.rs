@@ -57,10 +57,7 @@ fn leaves(random: &mut Random) -> Vec<Input> {
         };
         sets.push(set);
     }
-    let leaf = |set: Vec<u32>| Input {
-        bytes: generate::sound(random, &set),
-        set,
-    };
+    let leaf = |set: Vec<u32>| Input { bytes: generate::sound(random, &set), set };
     sets.into_iter().map(leaf).collect()
 }
 

@@ -381,7 +381,7 @@ fn break_offsets(random: &mut Random, draft: &mut Draft) {
         1 => chunk.offsets[at + 1] = chunk.offsets[at],
         _ if chunk.descriptors.len() < 256 => {
             *chunk.offsets.last_mut().unwrap() = chunk.descriptors.len() as u8
-        },
+        }
         _ => chunk.offsets.swap(at, at + 1),
     }
 }
@@ -462,7 +462,7 @@ fn change_cardinality(random: &mut Random, draft: &mut Draft) {
         0 => draft.cardinality.wrapping_add(1),
         1 => draft.cardinality.wrapping_sub(1),
         2 => draft.cardinality ^ 1 << random.below(24),
-        _ => random.next() as u32,
+        _ => random.word() as u32,
     };
 }
 
@@ -474,7 +474,7 @@ pub fn damaged_list(random: &mut Random, mut list: Vec<u32>) -> Vec<u32> {
         0 => list.push(random.pick(&[2_097_152, 2_097_153, 16_777_216, u32::MAX])),
         1 if !list.is_empty() => list.insert(at, list[at]),
         2 if list.len() > 1 => list.swap(at, (at + 1) % length),
-        3 if !list.is_empty() => list[at] = random.next() as u32,
+        3 if !list.is_empty() => list[at] = random.word() as u32,
         _ => list.insert(at, random.pick(&[0, 2_097_152])),
     }
     list

@@ -144,15 +144,7 @@ fn draft_of(random: &mut Random, columns: Vec<Column>, rows: usize, tags: &[u8])
         .collect();
     let mut header = [Vec::new(), vec![0]];
     push_varint(columns.len() as u32, &mut header[0]);
-    Draft {
-        columns,
-        rows,
-        header,
-        tag_spare: 0,
-        has_nulls_spare: 0,
-        drafts,
-        tail: Vec::new(),
-    }
+    Draft { columns, rows, header, tag_spare: 0, has_nulls_spare: 0, drafts, tail: Vec::new() }
 }
 
 fn any_column(random: &mut Random, column: &Column, rows: usize, tag: u8) -> ColumnDraft {
@@ -278,11 +270,7 @@ pub fn damaged(random: &mut Random) -> Case {
             After::Bytes => damage_bytes(random, &mut bucket),
         }
     }
-    Case {
-        schema,
-        rows,
-        bucket,
-    }
+    Case { schema, rows, bucket }
 }
 
 /// Damage of the whole bucket's bytes.

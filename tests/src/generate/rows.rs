@@ -27,13 +27,8 @@ struct Draft {
 
 impl Draft {
     fn new(columns: Vec<Column>, rows: Vec<Vec<u8>>) -> Draft {
-        let mut draft = Draft {
-            columns,
-            gap: Vec::new(),
-            offsets: Vec::new(),
-            count: rows.len() as u32,
-            rows,
-        };
+        let mut draft =
+            Draft { columns, gap: Vec::new(), offsets: Vec::new(), count: rows.len() as u32, rows };
         draft.place_rows();
         draft
     }
@@ -139,10 +134,7 @@ pub fn sound_with_content(random: &mut Random) -> (Case, Vec<Column>, Vec<Row>) 
     let (columns, rows) = any_rows(random);
     let laid = rows.iter().map(|row| row_bytes(&columns, row)).collect();
     let draft = Draft::new(columns, laid);
-    let case = Case {
-        schema: schema_bytes(&draft.columns),
-        block: draft.bytes(),
-    };
+    let case = Case { schema: schema_bytes(&draft.columns), block: draft.bytes() };
     (case, draft.columns, rows)
 }
 
@@ -202,7 +194,7 @@ fn break_offsets(random: &mut Random, draft: &mut Draft) {
         0 => offset.wrapping_add(1),
         1 => offset.wrapping_sub(1),
         2 => random.below(100) as u32,
-        _ => random.next() as u32,
+        _ => random.word() as u32,
     };
 }
 
@@ -237,7 +229,7 @@ fn break_row(random: &mut Random, draft: &mut Draft) {
     }
     let mut bytes = row_bytes(&draft.columns, &row);
     let used = draft.columns.len();
-    if spare && used % 8 != 0 {
+    if spare && !used.is_multiple_of(8) {
         bytes[used / 8] |= 1 << random.between(used % 8, 7);
     }
     draft.rows[at] = bytes;

@@ -33,7 +33,7 @@ pub fn bad_varint(random: &mut Random, value: u32) -> Vec<u8> {
 fn declared_length(random: &mut Random) -> u32 {
     match random.below(4) {
         0 => random.pick(&[0, 127, 128, 16_384, 1 << 28, u32::MAX]),
-        1 => random.next() as u32,
+        1 => random.word() as u32,
         _ => random.below(300) as u32,
     }
 }
@@ -74,12 +74,7 @@ pub fn columns(random: &mut Random) -> Vec<Column> {
         2..=5 => random.between(7, 9),
         _ => random.between(1, 5),
     };
-    (0..count)
-        .map(|_| Column {
-            kind: any_type(random),
-            nullable: random.once_in(2),
-        })
-        .collect()
+    (0..count).map(|_| Column { kind: any_type(random), nullable: random.once_in(2) }).collect()
 }
 
 pub fn schema_bytes(columns: &[Column]) -> Vec<u8> {
@@ -154,7 +149,10 @@ fn bad_parameters(random: &mut Random) -> Vec<u8> {
 pub enum Value {
     /// Boolean, integers and floats, by their stored bits.
     Bits(u64),
-    Time { count: u64, nanos: u32 },
+    Time {
+        count: u64,
+        nanos: u32,
+    },
     Counted(Vec<u8>),
     /// Bytes as they are, for damage.
     Raw(Vec<u8>),
@@ -166,10 +164,9 @@ pub fn value(random: &mut Random, kind: Type) -> Value {
         Type::Boolean => Value::Bits(random.below(2) as u64),
         Type::Float => Value::Bits(float_bits(random, 23, 32)),
         Type::Double => Value::Bits(float_bits(random, 52, 64)),
-        Type::Timestamp { .. } => Value::Time {
-            count: whole_bits(random),
-            nanos: nanoseconds(random),
-        },
+        Type::Timestamp { .. } => {
+            Value::Time { count: whole_bits(random), nanos: nanoseconds(random) }
+        }
         Type::Decimal { precision: 19.., .. } => {
             let length = random.pick(&[1, 1, 8, 9, 16, 17, 130]);
             Value::Counted(random.bytes(length))
@@ -201,15 +198,15 @@ fn whole_bits(random: &mut Random) -> u64 {
         0 => random.pick(&[0, 1, u64::MAX]),
         1 => 1 << random.pick(&[7, 15, 31, 63]),
         2 => (1 << random.pick(&[7, 15, 31, 63])) - 1,
-        _ => random.next(),
+        _ => random.word(),
     }
 }
 
 /// Stored bits of a float of `bits` bits, `fraction` of them the fraction.
 fn float_bits(random: &mut Random, fraction: u32, bits: u32) -> u64 {
-    let sign = (random.next() & 1) << (bits - 1);
+    let sign = (random.word() & 1) << (bits - 1);
     let exponent = ((1 << (bits - 1 - fraction)) - 1) << fraction;
-    let low = random.next() & ((1 << fraction) - 1);
+    let low = random.word() & ((1 << fraction) - 1);
     let quiet = 1 << (fraction - 1);
     sign | match random.below(8) {
         0 => 0,
@@ -218,7 +215,7 @@ fn float_bits(random: &mut Random, fraction: u32, bits: u32) -> u64 {
         3 => exponent | 1,
         4 => exponent | low,
         5 => low,
-        _ => random.next() & (exponent | low),
+        _ => random.word() & (exponent | low),
     }
 }
 

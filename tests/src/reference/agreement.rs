@@ -73,13 +73,7 @@ fn combining_is_the_operation_on_members() {
 }
 
 /// Whether the answer shows the value. `nanos_over` is the precision over which nanoseconds are stored.
-fn shows(
-    answer: Answer,
-    kind: Type,
-    value: &Option<Value>,
-    bytes: &[u8],
-    nanos_over: u32,
-) -> bool {
+fn shows(answer: Answer, kind: Type, value: &Option<Value>, bytes: &[u8], nanos_over: u32) -> bool {
     match (value, answer) {
         (None, answer) => answer == Answer::Null,
         (Some(Value::Counted(content)), Answer::Place { start, length }) => {

@@ -42,11 +42,7 @@ impl<'a> Bitmap<'a> {
         if count_members(&sizes, rest)? != cardinality {
             return Err(11);
         }
-        Ok(Bitmap {
-            sizes,
-            containers: rest,
-            cardinality,
-        })
+        Ok(Bitmap { sizes, containers: rest, cardinality })
     }
 
     pub fn cardinality(&self) -> u32 {
@@ -92,11 +88,7 @@ impl<'a> Bitmap<'a> {
 
     /// Lists the first members at or above the place into the list.
     pub fn page(&self, place: u32, list: &mut [u32]) -> Page {
-        let mut page = Page {
-            place,
-            finished: true,
-            given: 0,
-        };
+        let mut page = Page { place, finished: true, given: 0 };
         let first = (place >> 8) as usize;
         if first >= self.sizes.len() {
             return page;
@@ -149,19 +141,10 @@ pub fn rank(bytes: &[u8], position: u32) -> Result<u32, Refusal> {
     Ok(Bitmap::judge(bytes)?.rank(position))
 }
 
-pub fn page(
-    bytes: &[u8],
-    place: u32,
-    finished: bool,
-    list: &mut [u32],
-) -> Result<Page, Refusal> {
+pub fn page(bytes: &[u8], place: u32, finished: bool, list: &mut [u32]) -> Result<Page, Refusal> {
     let bitmap = Bitmap::judge(bytes)?;
     if finished {
-        return Ok(Page {
-            place,
-            finished,
-            given: 0,
-        });
+        return Ok(Page { place, finished, given: 0 });
     }
     Ok(bitmap.page(place, list))
 }
@@ -224,7 +207,7 @@ fn rising(bytes: &[u8]) -> bool {
 
 /// Whether a bit after the first `used` bits is set in the last byte.
 fn spare_bits(packed: &[u8], used: usize) -> bool {
-    used % 8 != 0 && packed[used / 8] & (0xFF >> (used % 8)) != 0
+    !used.is_multiple_of(8) && packed[used / 8] & (0xFF >> (used % 8)) != 0
 }
 
 /// Unpacks values of `width` bits, first value in the highest bits, and adds `base` to each.
@@ -266,11 +249,7 @@ fn count_members(sizes: &[u8], containers: &[u8]) -> Result<u32, Refusal> {
         let (container, next) = rest.split_at(usize::from(size));
         rest = next;
         let count = members(container);
-        let sound = if size == DENSE {
-            count >= u32::from(DENSE)
-        } else {
-            rising(container)
-        };
+        let sound = if size == DENSE { count >= u32::from(DENSE) } else { rising(container) };
         if !sound {
             return Err(10);
         }
@@ -437,8 +416,8 @@ fn choose_packing(values: &[u8]) -> Packing {
     let largest = of_width.iter().rposition(|&count| count > 0).unwrap_or(0);
     let mut wider = values.len();
     let mut best = (usize::MAX, 0, 0);
-    for b in 0..=largest {
-        wider -= of_width[b];
+    for (b, &count) in of_width.iter().enumerate().take(largest + 1) {
+        wider -= count;
         let cost = 32 * b + wider + (wider * (largest - b)).div_ceil(8);
         if cost < best.0 {
             best = (cost, b, wider);

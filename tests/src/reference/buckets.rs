@@ -51,12 +51,7 @@ impl<'a> Bucket<'a> {
         if reader.place != bytes.len() {
             return Err(36);
         }
-        Ok(Bucket {
-            columns,
-            rows,
-            bytes,
-            parts,
-        })
+        Ok(Bucket { columns, rows, bytes, parts })
     }
 
     pub fn field(&self, row: u32, column: u32) -> Result<Answer, Refusal> {
@@ -267,7 +262,7 @@ impl<'a> Reader<'a> {
 }
 
 fn no_spare_bits(array: &[u8], bits: usize) -> Result<(), Refusal> {
-    if bits % 8 != 0 && array[bits / 8] >> (bits % 8) != 0 {
+    if !bits.is_multiple_of(8) && array[bits / 8] >> (bits % 8) != 0 {
         return Err(34);
     }
     Ok(())
@@ -278,9 +273,8 @@ fn ones_below(bits: &[u8], count: usize) -> usize {
     let (whole, part) = (count / 8, count % 8);
     let words = bits[..whole].chunks_exact(8);
     let tail: u32 = words.remainder().iter().map(|byte| byte.count_ones()).sum();
-    let ones: u32 = words
-        .map(|word| u64::from_ne_bytes(word.try_into().unwrap()).count_ones())
-        .sum();
+    let ones: u32 =
+        words.map(|word| u64::from_ne_bytes(word.try_into().unwrap()).count_ones()).sum();
     let last = if part == 0 { 0 } else { (bits[whole] & ((1 << part) - 1)).count_ones() };
     (ones + tail + last) as usize
 }

@@ -32,7 +32,13 @@ pub enum Answer {
     /// The stored bits of a DOUBLE.
     Double(u64),
     /// A TIMESTAMP: the stored count in its own unit.
-    Time { count: i64, nanos: u32 },
+    Time {
+        count: i64,
+        nanos: u32,
+    },
     /// Text, bytes or a large DECIMAL: where they lie in the block or bucket.
-    Place { start: usize, length: usize },
+    Place {
+        start: usize,
+        length: usize,
+    },
 }

@@ -8,9 +8,7 @@ fn form(positions: &[u32]) -> Vec<u8> {
 }
 
 fn bytes(hex: &str) -> Vec<u8> {
-    hex.split_whitespace()
-        .map(|byte| u8::from_str_radix(byte, 16).unwrap())
-        .collect()
+    hex.split_whitespace().map(|byte| u8::from_str_radix(byte, 16).unwrap()).collect()
 }
 
 fn members(bytes: &[u8]) -> Result<Vec<u32>, Refusal> {
@@ -44,9 +42,7 @@ fn lengths_of_forms() {
 
 #[test]
 fn the_longest_form() {
-    let set: Vec<u32> = (0..POSITIONS)
-        .filter(|p| (p >> 8) % 256 != 0 && p % 256 < 32)
-        .collect();
+    let set: Vec<u32> = (0..POSITIONS).filter(|p| (p >> 8) % 256 != 0 && p % 256 < 32).collect();
     let form = form(&set);
     assert_eq!(form.len(), 267_366);
     assert_eq!(members(&form).unwrap(), set);
