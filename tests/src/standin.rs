@@ -2,6 +2,7 @@
 //! one fault, by name; src/bin/faults.rs lists the names. With it the tests can be seen to fail.
 
 use crate::ffi::{Field, FieldPointers};
+use crate::generate::bitmap::packed_by;
 use crate::reference::bitmap::{self, Operation};
 use crate::reference::{buckets, rows, schema, Answer};
 use std::slice::{from_raw_parts, from_raw_parts_mut};
@@ -69,6 +70,8 @@ const FAULTS: &[(&str, &[&str])] = &[
             "room-before-list",
             "trailing-empty-container",
             "room-one-too-many",
+            "larger-width-on-a-tie",
+            "cost-of-a-short-chunk",
         ],
     ),
     (
@@ -306,7 +309,24 @@ pub unsafe extern "C" fn bv_bitmap_write(
     length: *mut usize,
 ) -> u32 {
     let positions = from_raw_parts(positions, count);
-    write_form(out, room, length, |out| bitmap::write(positions, out))
+    write_form(out, room, length, |out| {
+        let length = bitmap::write(positions, out)?;
+        Ok(repack(positions, out).unwrap_or(length))
+    })
+}
+
+/// Writes the form again with another choice of widths, if that is the planted fault and it fits.
+fn repack(positions: &[u32], out: &mut [u8]) -> Option<usize> {
+    let short = planted("cost-of-a-short-chunk");
+    if !short && !planted("larger-width-on-a-tie") {
+        return None;
+    }
+    let form = packed_by(positions, |[n, b, e, b2]| {
+        let primary = if short { (n * b).div_ceil(8) } else { 32 * b };
+        (primary + e + (e * b2).div_ceil(8), if short { b } else { 8 - b })
+    });
+    out.get_mut(..form.len())?.copy_from_slice(&form);
+    Some(form.len())
 }
 
 fn combine(operation: Operation, a: &[u8], b: &[u8], out: &mut [u8]) -> Result<usize, u32> {

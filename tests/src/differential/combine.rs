@@ -1,18 +1,15 @@
 //! The four set operations, bytes to bytes.
 
-use super::{hex, room_around, same, Tally, LONGEST_FORM};
+use super::{edge_number, hex, room_around, same, Tally, LONGEST_FORM};
 use crate::ffi::{combine, Lent};
 use crate::generate::{bitmap as generate, Random};
 use crate::reference::bitmap::{self as reference, OPERATIONS};
 
-pub fn run_case(_case: u64, random: &mut Random, tally: &mut Tally) -> Result<(), String> {
-    let set = generate::set(random);
-    let first = any_bitmap(random, &set);
-    let other = match random.below(3) {
-        0 => generate::set(random),
-        _ => generate::related_set(random, &set),
+pub fn run_case(case: u64, random: &mut Random, tally: &mut Tally) -> Result<(), String> {
+    let (first, second) = match edge_number(case).and_then(generate::edge_pair) {
+        Some(pair) => pair,
+        None => any_pair(random),
     };
-    let second = any_bitmap(random, &other);
     let a = Lent::input("a", &first, random);
     let b = Lent::input("b", &second, random);
     let twice = random.once_in(8);
@@ -32,6 +29,15 @@ pub fn run_case(_case: u64, random: &mut Random, tally: &mut Tally) -> Result<()
         }
     }
     Ok(())
+}
+
+fn any_pair(random: &mut Random) -> (Vec<u8>, Vec<u8>) {
+    let set = generate::set(random);
+    let other = match random.below(3) {
+        0 => generate::set(random),
+        _ => generate::related_set(random, &set),
+    };
+    (any_bitmap(random, &set), any_bitmap(random, &other))
 }
 
 fn any_bitmap(random: &mut Random, set: &[u32]) -> Vec<u8> {

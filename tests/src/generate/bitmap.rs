@@ -104,6 +104,7 @@ pub fn set(random: &mut Random) -> Vec<u32> {
         121..=300 => vec![random.pick(&[0, 255, 256, 65_535, 65_536, 2_097_151])],
         301..=400 => scattered(random),
         401..=440 => run(random),
+        441..=540 => near_tie(random),
         _ => by_containers(random),
     }
 }
@@ -121,6 +122,28 @@ fn run(random: &mut Random) -> Vec<u32> {
     let start = random.below(POSITIONS);
     let length = random.below((POSITIONS - start).min(20_000)) + 1;
     (start as u32..(start + length) as u32).collect()
+}
+
+/// A chunk where two widths cost the same, or nearly: so many values of one width among values 0.
+fn near_tie(random: &mut Random) -> Vec<u32> {
+    let (width, count) = random.pick(&[(1, 28), (2, 51), (4, 85), (5, 98)]);
+    let count = count + random.pick(&[0, 0, 0, 1]);
+    let containers = random.between(count + 1, 256);
+    let least = random.below(33 - (1 << width).min(32));
+    let mut sizes = vec![least; containers];
+    let mut left = count;
+    while left > 0 {
+        let at = random.below(containers - 1);
+        if sizes[at] == least {
+            sizes[at] += random.between(1 << (width - 1), (1 << width) - 1);
+            left -= 1;
+        }
+    }
+    let mut set = Vec::new();
+    for (k, &size) in sizes.iter().enumerate() {
+        push_members(random, (k * 256) as u32, size, &mut set);
+    }
+    set
 }
 
 fn by_containers(random: &mut Random) -> Vec<u32> {
@@ -214,9 +237,17 @@ fn any_chunk(random: &mut Random, descriptors: &[u8]) -> Chunk {
             budget -= 1;
         }
     }
+    let wanted = if random.once_in(2) { 0 } else { random.below(9) };
+    chunk_of(descriptors, m, b1, offsets, wanted)
+}
+
+/// The chunk of these descriptors with this m, this b1 and exceptions at these offsets. b2 is the wanted
+/// one, within what the exceptions need and what b1 leaves.
+fn chunk_of(descriptors: &[u8], m: u8, b1: usize, offsets: Vec<u8>, wanted: usize) -> Chunk {
+    let values: Vec<u32> = descriptors.iter().map(|&d| u32::from(d - m)).collect();
     let parts: Vec<u32> = offsets.iter().map(|&o| values[usize::from(o)] >> b1).collect();
-    let part_width = bit_width(parts.iter().copied().max().unwrap_or(0));
-    let b2 = if random.once_in(2) { part_width } else { random.between(part_width, 8 - b1) };
+    let needed = bit_width(parts.iter().copied().max().unwrap_or(0));
+    let b2 = needed.max(wanted.min(8 - b1));
     let low: Vec<u32> = values.iter().map(|&value| value & ((1 << b1) - 1)).collect();
     Chunk {
         descriptors: descriptors.to_vec(),
@@ -249,26 +280,23 @@ impl Draft {
         } else if random.once_in(200) {
             count = 8192;
         }
-        let mut containers = vec![Vec::new(); count.min(8192)];
-        for &position in set {
-            containers[(position >> 8) as usize].push(position as u8);
-        }
-        let mut descriptors = Vec::new();
-        for container in &mut containers {
-            if container.len() < 32 {
-                descriptors.push(container.len() as u8);
-            } else {
-                *container = dense(container);
-                let low = if random.once_in(3) { random.below(32) as u8 } else { 0 };
-                descriptors.push(32 + low);
+        let containers = containers(set, count.min(8192));
+        let mut descriptors: Vec<u8> = containers.iter().map(|c| c.len() as u8).collect();
+        for descriptor in &mut descriptors {
+            if *descriptor == 32 && random.once_in(3) {
+                *descriptor += random.below(32) as u8;
             }
         }
-        let chunks = descriptors.chunks(CHUNK);
+        let chunks = descriptors.chunks(CHUNK).map(|chunk| any_chunk(random, chunk)).collect();
+        Draft::with(set, containers, chunks)
+    }
+
+    fn with(set: &[u32], containers: Vec<Vec<u8>>, chunks: Vec<Chunk>) -> Draft {
         Draft {
             version: 1,
             cardinality: set.len() as u32,
             count: containers.len() as u16,
-            chunks: chunks.map(|chunk| any_chunk(random, chunk)).collect(),
+            chunks,
             containers,
         }
     }
@@ -292,6 +320,18 @@ impl Draft {
     }
 }
 
+/// The bytes of each container.
+fn containers(set: &[u32], count: usize) -> Vec<Vec<u8>> {
+    let mut containers = vec![Vec::new(); count];
+    for &position in set {
+        containers[(position >> 8) as usize].push(position as u8);
+    }
+    for container in containers.iter_mut().filter(|container| container.len() >= 32) {
+        *container = dense(container);
+    }
+    containers
+}
+
 fn dense(members: &[u8]) -> Vec<u8> {
     let mut bits = vec![0; 32];
     for &member in members {
@@ -303,6 +343,26 @@ fn dense(members: &[u8]) -> Vec<u8> {
 /// A sound bitmap of the set, seldom in the one written form.
 pub fn sound(random: &mut Random, set: &[u32]) -> Vec<u8> {
     Draft::of(random, set).bytes()
+}
+
+/// A sound bitmap of the set whose chunks have m and exceptions as in the one written form, and the
+/// b1 of least cost as `cost` says of n, b, e and b2; its second number decides a tie.
+pub fn packed_by(set: &[u32], cost: impl Fn([usize; 4]) -> (usize, usize)) -> Vec<u8> {
+    let count = set.last().map_or(0, |&last| (last >> 8) as usize + 1);
+    let containers = containers(set, count);
+    let descriptors: Vec<u8> = containers.iter().map(|c| c.len() as u8).collect();
+    let chunk = |chunk: &[u8]| {
+        let least = chunk.iter().copied().min().unwrap_or(0);
+        let width = |d: u8| bit_width(u32::from(d - least));
+        let largest = chunk.iter().map(|&d| width(d)).max().unwrap_or(0);
+        let wider = |b: usize| chunk.iter().filter(|&&d| width(d) > b).count();
+        let cost = |&b: &usize| cost([chunk.len(), b, wider(b), largest - b]);
+        let b1 = (0..=largest).min_by_key(cost).unwrap_or(0);
+        let offsets = (0..chunk.len()).filter(|&i| width(chunk[i]) > b1).map(|i| i as u8).collect();
+        chunk_of(chunk, least, b1, offsets, 0)
+    };
+    let chunks = descriptors.chunks(CHUNK).map(chunk).collect();
+    Draft::with(set, containers, chunks).bytes()
 }
 
 /// A bitmap of the set, damaged once or twice, mostly towards a certain refusal.
@@ -487,6 +547,19 @@ pub fn edge(number: u64) -> Option<Vec<u8>> {
         1 => Some(empty_containers(8192)),
         2 => Some(empty_containers(8193)),
         3 => Some(full_bitmap([0x00, 0, 32], &[])),
+        _ => None,
+    }
+}
+
+/// Pairs of bitmaps at the largest sizes.
+pub fn edge_pair(number: u64) -> Option<(Vec<u8>, Vec<u8>)> {
+    let full = || full_bitmap([0x00, 0, 32], &[]);
+    match number {
+        0 => Some((longest(), full())),
+        1 => Some((longest(), empty_containers(8192))),
+        2 => Some((empty_containers(8192), full())),
+        3 => Some((empty_containers(8192), empty_containers(8192))),
+        4 => Some((full(), empty_containers(8193))),
         _ => None,
     }
 }

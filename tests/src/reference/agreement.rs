@@ -37,6 +37,22 @@ fn sound_bitmaps_stand_for_their_set() {
 }
 
 #[test]
+fn the_form_has_the_widths_of_least_cost() {
+    let mut random = Random::new(5);
+    let cost = |b: usize, e: usize, b2: usize| 32 * b + e + (e * b2).div_ceil(8);
+    let mut ties = 0;
+    for _ in 0..3000 {
+        let set = generate::bitmap::set(&mut random);
+        let form = form(&set);
+        let smaller = generate::bitmap::packed_by(&set, |[_, b, e, b2]| (cost(b, e, b2), b));
+        assert!(smaller == form);
+        let larger = generate::bitmap::packed_by(&set, |[_, b, e, b2]| (cost(b, e, b2), 8 - b));
+        ties += usize::from(larger != form);
+    }
+    assert!(ties > 20, "{ties} sets with a tie");
+}
+
+#[test]
 fn edges_of_bitmaps() {
     let outcome = |number| bitmap::check(&generate::bitmap::edge(number).unwrap());
     assert_eq!(outcome(0), Ok(2_097_152));
