@@ -1,0 +1,140 @@
+/*
+ * Barcovento: pixel masks (Mumbling bitmaps), Paimon row blocks and Mosaic buckets.
+ *
+ * Every call takes any bytes and any numbers. It returns 0 and sets its outputs, or it returns the
+ * refusal number and leaves every output untouched.
+ *
+ * A slice is a pointer and a number of elements. A pointer is never null and is aligned for its
+ * type, also where the number of elements is 0. Outputs overlap neither inputs nor each other; two
+ * inputs may be the same bytes. No call keeps a pointer.
+ *
+ * Refusals:
+ *    1  bitmap under 6 bytes                     20  schema bad
+ *    2  version not 1                            21  block under 4 bytes or too long
+ *    3  over 8,192 containers                    22  row count negative, over 65,536, or offsets don't fit
+ *    4  descriptors cut short                    23  rows and offsets don't touch
+ *    5  b1, b2, e break the width rules          24  row bytes bad
+ *    6  exception offsets not rising or too high 25  row or column number absent
+ *    7  spare bits set in a chunk                30  bucket: wrong column count, children, or ill-formed header number
+ *    8  descriptor over 63                       31  bucket cut short
+ *    9  bytes left are not the containers        32  bad value or ill-formed length
+ *   10  sparse not rising, or dense under 32     33  bad number of entries, or index past them
+ *   11  cardinality wrong                        34  spare bits set
+ *   12  positions not strictly rising or too big 35  null in a NOT NULL column
+ *   13  written form longer than the output      36  bytes left over
+ *                                                37  bucket too long or over 65,536 rows
+ */
+#ifndef BARCOVENTO_H
+#define BARCOVENTO_H
+
+#include <stddef.h>
+#include <stdint.h>
+
+#ifdef __cplusplus
+extern "C" {
+#endif
+
+/* Bitmaps, reading. Refusals 1 to 11: each call judges the whole bitmap first. */
+
+/* The number of members. */
+uint32_t bv_bitmap_check(const uint8_t *bytes, size_t len, uint32_t *cardinality);
+
+/* Whether the position, any 32-bit number, is a member: 0 or 1. */
+uint32_t bv_bitmap_probe(const uint8_t *bytes, size_t len, uint32_t position, uint8_t *member);
+
+/* How many members lie below the position, any 32-bit number. */
+uint32_t bv_bitmap_rank(const uint8_t *bytes, size_t len, uint32_t position, uint32_t *below);
+
+/*
+ * The first members at or above *place into the list, as many as the room takes; the rest of the
+ * list is unchanged. *place becomes the last member given plus 1, or stays if none was given.
+ * *finished becomes 1 if no member remains, else 0. *given is the number of members given.
+ * A listing whose *finished is not 0 gives nothing: list, *place and *finished stay, *given is 0.
+ * Start with *place 0 and *finished 0.
+ */
+uint32_t bv_bitmap_page(const uint8_t *bytes, size_t len, uint32_t *place, uint8_t *finished,
+                        uint32_t *list, size_t room, uint32_t *given);
+
+/* Bitmaps, writing. *length is the form's length; it holds the first bytes of out, the rest is unchanged. */
+
+/* The one form of a strictly rising list of positions. Refusals 12, 13. */
+uint32_t bv_bitmap_write(const uint32_t *positions, size_t count, uint8_t *out, size_t room,
+                         size_t *length);
+
+/*
+ * The one form of the combined set. Refusals 1 to 11 of a, then 1 to 11 of b, then 13.
+ * Union: in at least one. Intersection: in both. Difference: in a only. Symmetric difference: in
+ * exactly one.
+ */
+uint32_t bv_bitmap_union(const uint8_t *a, size_t a_len, const uint8_t *b, size_t b_len,
+                         uint8_t *out, size_t room, size_t *length);
+uint32_t bv_bitmap_intersection(const uint8_t *a, size_t a_len, const uint8_t *b, size_t b_len,
+                                uint8_t *out, size_t room, size_t *length);
+uint32_t bv_bitmap_difference(const uint8_t *a, size_t a_len, const uint8_t *b, size_t b_len,
+                              uint8_t *out, size_t room, size_t *length);
+uint32_t bv_bitmap_symmetric_difference(const uint8_t *a, size_t a_len, const uint8_t *b,
+                                        size_t b_len, uint8_t *out, size_t room, size_t *length);
+
+/* Schemas. */
+
+/* The number of columns, 1 to 64. Refusal 20. */
+uint32_t bv_schema_check(const uint8_t *schema, size_t len, uint32_t *columns);
+
+/*
+ * One column: its type (the id, 0 to 16), whether it may be null (0 or 1), its length or precision
+ * (0 where the type has none), and its scale (DECIMAL, else 0). Refusals 20, then 25.
+ */
+uint32_t bv_schema_column(const uint8_t *schema, size_t len, uint32_t column, uint8_t *type,
+                          uint8_t *nullable, uint32_t *size, uint32_t *scale);
+
+/*
+ * The answer for one field. The outputs that a kind does not use are set to 0.
+ *
+ *   kind              uses
+ *   BV_NULL           -
+ *   BV_YES_NO         whole: 0 or 1
+ *   BV_WHOLE          whole: integers, DATE, TIME, DECIMAL up to precision 18
+ *   BV_FLOAT          bits: the stored bits, in the low 32
+ *   BV_DOUBLE         bits: the stored bits
+ *   BV_TIME           whole: the stored count; nanos: 0 where none are stored
+ *   BV_PLACE          start and length of text, bytes or large DECIMAL in the block or bucket
+ */
+enum {
+    BV_NULL = 0,
+    BV_YES_NO = 1,
+    BV_WHOLE = 2,
+    BV_FLOAT = 3,
+    BV_DOUBLE = 4,
+    BV_TIME = 5,
+    BV_PLACE = 6
+};
+
+/* Row blocks. Each call judges the schema and then the whole block first. */
+
+/* The number of rows. Refusals 20 to 24. */
+uint32_t bv_block_check(const uint8_t *schema, size_t schema_len, const uint8_t *block,
+                        size_t block_len, uint32_t *rows);
+
+/* One field. Refusals 20 to 25. */
+uint32_t bv_block_field(const uint8_t *schema, size_t schema_len, const uint8_t *block,
+                        size_t block_len, uint32_t row, uint32_t column, uint8_t *kind,
+                        int64_t *whole, uint64_t *bits, uint32_t *nanos, size_t *start,
+                        size_t *length);
+
+/* Buckets of a given number of rows. Each call judges the schema and then the whole bucket first. */
+
+/* Whether the bucket is sound. Refusals 20, 30 to 37. */
+uint32_t bv_bucket_check(const uint8_t *schema, size_t schema_len, uint32_t rows,
+                         const uint8_t *bucket, size_t bucket_len);
+
+/* One field. Refusals 20, 30 to 37, then 25. */
+uint32_t bv_bucket_field(const uint8_t *schema, size_t schema_len, uint32_t rows,
+                         const uint8_t *bucket, size_t bucket_len, uint32_t row, uint32_t column,
+                         uint8_t *kind, int64_t *whole, uint64_t *bits, uint32_t *nanos,
+                         size_t *start, size_t *length);
+
+#ifdef __cplusplus
+}
+#endif
+
+#endif

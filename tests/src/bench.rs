@@ -1,0 +1,145 @@
+//! What the benchmark measures.
+
+use crate::generate::Random;
+
+#[cfg(feature = "combine")]
+mod combine;
+#[cfg(feature = "croaring")]
+mod croaring;
+#[cfg(feature = "read")]
+mod read;
+#[cfg(any(feature = "rows", feature = "buckets"))]
+mod tables;
+#[cfg(feature = "write")]
+mod write;
+
+/// One line of the table; times in seconds for one call.
+pub struct Line {
+    pub call: String,
+    pub input: String,
+    pub library: f64,
+    pub reference: f64,
+    pub ratio: f64,
+    pub roaring: Option<f64>,
+}
+
+type Print<'a> = &'a mut dyn FnMut(Line);
+
+/// The groups whose calls are linked.
+pub fn groups() -> Vec<fn(Print)> {
+    vec![
+        #[cfg(feature = "read")]
+        read::run,
+        #[cfg(feature = "write")]
+        write::run,
+        #[cfg(feature = "combine")]
+        combine::run,
+        #[cfg(feature = "rows")]
+        tables::run_rows,
+        #[cfg(feature = "buckets")]
+        tables::run_buckets,
+    ]
+}
+
+const RUNS: usize = 41;
+/// Seconds that a run takes at least.
+const RUN: f64 = 0.002;
+
+#[repr(C)]
+struct TimeSpec {
+    seconds: i64,
+    nanoseconds: i64,
+}
+
+const CLOCK_THREAD_CPUTIME_ID: i32 = 3;
+
+extern "C" {
+    fn clock_gettime(clock: i32, time: *mut TimeSpec) -> i32;
+}
+
+/// The CPU time of this thread in seconds: other processes on the machine don't count.
+fn cpu_seconds() -> f64 {
+    let mut time = TimeSpec { seconds: 0, nanoseconds: 0 };
+    let code = unsafe { clock_gettime(CLOCK_THREAD_CPUTIME_ID, &mut time) };
+    assert_eq!(code, 0, "no CPU clock");
+    time.seconds as f64 + time.nanoseconds as f64 * 1e-9
+}
+
+/// Seconds for one call, over `calls` calls.
+fn once(calls: u32, call: &mut dyn FnMut()) -> f64 {
+    let start = cpu_seconds();
+    for _ in 0..calls {
+        call();
+    }
+    (cpu_seconds() - start) / f64::from(calls)
+}
+
+/// How many calls make a run.
+fn calls(call: &mut dyn FnMut()) -> u32 {
+    let mut calls = 1;
+    while once(calls, call) * f64::from(calls) < RUN {
+        calls *= 2;
+    }
+    calls
+}
+
+fn median(mut values: Vec<f64>) -> f64 {
+    values.sort_by(f64::total_cmp);
+    values[values.len() / 2]
+}
+
+/// Measures both sides by turns, and which one begins by turns too.
+fn measure(
+    call: &str,
+    input: &str,
+    library: &mut dyn FnMut(),
+    reference: &mut dyn FnMut(),
+) -> Line {
+    let library_calls = calls(library);
+    let reference_calls = calls(reference);
+    let slow = once(1, reference) > 0.1 || once(1, library) > 0.1;
+    let mut pairs = Vec::new();
+    for run in 0..if slow { 5 } else { RUNS } {
+        if run % 2 == 0 {
+            let first = once(library_calls, library);
+            pairs.push((first, once(reference_calls, reference)));
+        } else {
+            let first = once(reference_calls, reference);
+            pairs.push((once(library_calls, library), first));
+        }
+    }
+    Line {
+        call: call.to_string(),
+        input: input.to_string(),
+        library: median(pairs.iter().map(|pair| pair.0).collect()),
+        reference: median(pairs.iter().map(|pair| pair.1).collect()),
+        ratio: median(pairs.iter().map(|pair| pair.0 / pair.1).collect()),
+        roaring: None,
+    }
+}
+
+/// Each position of the first containers with this chance.
+fn random_set(random: &mut Random, containers: usize, chance: f64) -> Vec<u32> {
+    let limit = (chance * u64::MAX as f64) as u64;
+    (0..containers as u32 * 256).filter(|_| random.word() <= limit).collect()
+}
+
+/// The bitmaps of the reading and writing lines.
+fn bitmaps() -> [(&'static str, Vec<u32>); 4] {
+    let mut random = Random::new(1);
+    let thousand = random_set(&mut random, 8192, 1000.0 / 2_097_152.0);
+    [
+        ("(a) 8,192 dense containers", random_set(&mut random, 8192, 0.5)),
+        ("(b) 8,192 containers, 5 %", random_set(&mut random, 8192, 0.05)),
+        ("(c) 1,000 members over all", thousand),
+        ("(d) two containers", random_set(&mut random, 2, 0.2)),
+    ]
+}
+
+/// The one written form, by the second program.
+fn form(set: &[u32]) -> Vec<u8> {
+    let mut out = vec![0; 267_366];
+    let length = crate::reference::bitmap::write(set, &mut out).expect("a sound set");
+    out.truncate(length);
+    out
+}

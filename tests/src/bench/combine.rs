@@ -1,0 +1,54 @@
+//! The four set operations, bytes to bytes.
+
+use super::{form, measure, random_set, Line, Print};
+use crate::ffi::combine::{call, Call};
+use crate::generate::Random;
+use crate::reference::bitmap::{self as reference, Operation, OPERATIONS};
+use std::hint::black_box;
+
+pub fn run(print: Print) {
+    let mut random = Random::new(2);
+    let pairs = [
+        ("0.05 %", 8192, 0.0005),
+        ("5 %", 8192, 0.05),
+        ("20 %", 8192, 0.2),
+        ("50 %", 8192, 0.5),
+        ("two containers, 20 %", 2, 0.2),
+    ];
+    for (name, containers, chance) in pairs {
+        let first = random_set(&mut random, containers, chance);
+        let second = random_set(&mut random, containers, chance);
+        for operation in OPERATIONS {
+            print(line(operation, name, &first, &second));
+        }
+    }
+}
+
+fn line(operation: Operation, name: &str, first: &[u32], second: &[u32]) -> Line {
+    let (a, b) = (form(first), form(second));
+    let call = call(operation);
+    let (mut out, mut expected) = (vec![0; 267_366], vec![0; 267_366]);
+    #[allow(unused_mut)]
+    let mut line = measure(
+        &format!("{operation:?}"),
+        name,
+        &mut || combine(call, &a, &b, &mut out),
+        &mut || {
+            black_box(reference::combine(operation, &a, &b, &mut expected)).ok();
+        },
+    );
+    assert!(out == expected);
+    #[cfg(feature = "croaring")]
+    {
+        line.roaring = Some(super::croaring::measure(operation, first, second));
+    }
+    line
+}
+
+fn combine(call: Call, a: &[u8], b: &[u8], out: &mut [u8]) {
+    let mut length = 0;
+    let code = unsafe {
+        call(a.as_ptr(), a.len(), b.as_ptr(), b.len(), out.as_mut_ptr(), out.len(), &mut length)
+    };
+    black_box((code, length));
+}

@@ -1,0 +1,196 @@
+//! Judging large row blocks and buckets, and asking for every field of small ones.
+
+use super::{measure, Print};
+use crate::ffi::Field;
+use crate::generate::schema::schema_bytes;
+use crate::generate::Random;
+use crate::reference::schema::{Column, Type};
+use crate::reference::MAX_BYTES;
+use std::hint::black_box;
+
+/// Columns of all types, every second one nullable.
+fn mixed_columns(count: usize) -> Vec<Column> {
+    let length = 20;
+    let types = [
+        Type::Boolean,
+        Type::TinyInt,
+        Type::SmallInt,
+        Type::Integer,
+        Type::BigInt,
+        Type::Float,
+        Type::Double,
+        Type::Date,
+        Type::Char { length },
+        Type::VarChar { length },
+        Type::String,
+        Type::Binary { length },
+        Type::VarBinary { length },
+        Type::Bytes,
+        Type::Decimal { precision: 18, scale: 2 },
+        Type::Decimal { precision: 38, scale: 2 },
+        Type::Time { precision: 3 },
+        Type::Timestamp { precision: 3 },
+        Type::Timestamp { precision: 9 },
+    ];
+    let column = |i: usize| Column { kind: types[i % types.len()], nullable: i.is_multiple_of(2) };
+    (0..count).map(column).collect()
+}
+
+fn describe(bytes: usize, rows: u32, columns: usize) -> String {
+    format!("{bytes} bytes, {rows} rows, {columns} columns")
+}
+
+/// What a field call sets.
+fn empty_field() -> Field {
+    Field { kind: 0, whole: 0, bits: 0, nanos: 0, start: 0, length: 0 }
+}
+
+#[cfg(feature = "rows")]
+pub fn run_rows(print: Print) {
+    use crate::generate::rows::filled;
+    use crate::reference::rows as reference;
+
+    let mut random = Random::new(3);
+    let columns = mixed_columns(38);
+    let schema = schema_bytes(&columns);
+    let large = filled(&mut random, &columns, MAX_BYTES, 65_536);
+    let rows = reference::check(&schema, &large).expect("a sound block");
+    let input = describe(large.len(), rows, columns.len());
+    print(measure("block check", &input, &mut || block_check(&schema, &large), &mut || {
+        black_box(reference::check(&schema, black_box(&large))).ok();
+    }));
+    let small = filled(&mut random, &columns, 65_536, 65_536);
+    let rows = reference::check(&schema, &small).expect("a sound block");
+    let input = describe(small.len(), rows, columns.len());
+    let fields = columns.len() as u32;
+    let library = |row, column| block_field(&schema, &small, row, column);
+    let second = |row, column| reference::field(&schema, &small, row, column).map(Field::from);
+    print(measure(
+        "block field, every one",
+        &input,
+        &mut || ask_all(rows, fields, &library),
+        &mut || ask_all(rows, fields, &|row, column| second(row, column).ok()),
+    ));
+}
+
+#[cfg(feature = "buckets")]
+pub fn run_buckets(print: Print) {
+    use crate::generate::buckets::{filled, ALL_NULL, CONST, DICT, PLAIN};
+    use crate::reference::buckets as reference;
+
+    let mut random = Random::new(4);
+    let rows = 65_536;
+    let mut columns = mixed_columns(64);
+    let tags = [PLAIN, PLAIN, PLAIN, DICT, PLAIN];
+    let mut large = filled(&mut random, &columns, rows as usize, &tags);
+    while large.len() > MAX_BYTES {
+        columns.pop();
+        large = filled(&mut random, &columns, rows as usize, &tags);
+    }
+    let schema = schema_bytes(&columns);
+    assert_eq!(reference::check(&schema, rows, &large), Ok(()));
+    let input = describe(large.len(), rows, columns.len());
+    print(measure(
+        "bucket check",
+        &input,
+        &mut || bucket_check(&schema, rows, &large),
+        &mut || {
+            black_box(reference::check(&schema, rows, black_box(&large))).ok();
+        },
+    ));
+    let rows = 50;
+    let tags = [PLAIN, CONST, DICT, PLAIN, ALL_NULL];
+    let small = filled(&mut random, &columns, rows as usize, &tags);
+    let input = describe(small.len(), rows, columns.len());
+    let fields = columns.len() as u32;
+    let library = |row, column| bucket_field(&schema, rows, &small, row, column);
+    let second = |row, column| reference::field(&schema, rows, &small, row, column).ok();
+    print(measure(
+        "bucket field, every one",
+        &input,
+        &mut || ask_all(rows, fields, &library),
+        &mut || ask_all(rows, fields, &|row, column| second(row, column).map(Field::from)),
+    ));
+}
+
+fn ask_all(rows: u32, columns: u32, ask: &dyn Fn(u32, u32) -> Option<Field>) {
+    for row in 0..rows {
+        for column in 0..columns {
+            black_box(ask(row, column));
+        }
+    }
+}
+
+#[cfg(feature = "rows")]
+fn block_check(schema: &[u8], block: &[u8]) {
+    let mut rows = 0;
+    let code = unsafe {
+        crate::ffi::rows::bv_block_check(
+            schema.as_ptr(),
+            schema.len(),
+            block.as_ptr(),
+            block.len(),
+            &mut rows,
+        )
+    };
+    black_box((code, rows));
+}
+
+#[cfg(feature = "rows")]
+fn block_field(schema: &[u8], block: &[u8], row: u32, column: u32) -> Option<Field> {
+    let mut to = empty_field();
+    let code = unsafe {
+        crate::ffi::rows::bv_block_field(
+            schema.as_ptr(),
+            schema.len(),
+            block.as_ptr(),
+            block.len(),
+            row,
+            column,
+            &mut to.kind,
+            &mut to.whole,
+            &mut to.bits,
+            &mut to.nanos,
+            &mut to.start,
+            &mut to.length,
+        )
+    };
+    (code == 0).then_some(to)
+}
+
+#[cfg(feature = "buckets")]
+fn bucket_check(schema: &[u8], rows: u32, bucket: &[u8]) {
+    let code = unsafe {
+        crate::ffi::buckets::bv_bucket_check(
+            schema.as_ptr(),
+            schema.len(),
+            rows,
+            bucket.as_ptr(),
+            bucket.len(),
+        )
+    };
+    black_box(code);
+}
+
+#[cfg(feature = "buckets")]
+fn bucket_field(schema: &[u8], rows: u32, bucket: &[u8], row: u32, column: u32) -> Option<Field> {
+    let mut to = empty_field();
+    let code = unsafe {
+        crate::ffi::buckets::bv_bucket_field(
+            schema.as_ptr(),
+            schema.len(),
+            rows,
+            bucket.as_ptr(),
+            bucket.len(),
+            row,
+            column,
+            &mut to.kind,
+            &mut to.whole,
+            &mut to.bits,
+            &mut to.nanos,
+            &mut to.start,
+            &mut to.length,
+        )
+    };
+    (code == 0).then_some(to)
+}

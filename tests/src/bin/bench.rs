@@ -1,0 +1,41 @@
+//! The library's time as a ratio of the second program's, in the same run. Prints a markdown table.
+//!
+//! Each line is the median of several runs in which the two sides take turns. Outputs are allocated
+//! before the measurement and are not cleared between calls.
+
+use second_program::bench::{groups, Line};
+
+fn time(seconds: f64) -> String {
+    match seconds {
+        s if s < 1e-6 => format!("{:.0} ns", s * 1e9),
+        s if s < 1e-3 => format!("{:.2} µs", s * 1e6),
+        s => format!("{:.2} ms", s * 1e3),
+    }
+}
+
+fn print(line: &Line) {
+    let roaring = line.roaring.map_or("-".to_string(), time);
+    println!(
+        "| {} | {} | {} | {} | {:.2} | {} |",
+        line.call,
+        line.input,
+        time(line.library),
+        time(line.reference),
+        line.ratio,
+        roaring
+    );
+}
+
+fn main() {
+    println!(
+        "CPU time of one call, medians of interleaved runs, baseline x86-64 code, opt-level 3."
+    );
+    println!("Output buffers are allocated beforehand and not cleared between calls.");
+    println!("Ratio: the library's time by the second program's, under 1 is faster.");
+    println!();
+    println!("| call | input | library | second program | ratio | CRoaring |");
+    println!("|---|---|---|---|---|---|");
+    for group in groups() {
+        group(&mut |line| print(&line));
+    }
+}

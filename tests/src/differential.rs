@@ -1,0 +1,165 @@
+//! The comparison of the library with the second program, case by case.
+
+use crate::generate::Random;
+use std::collections::BTreeMap;
+use std::fmt::Debug;
+
+#[cfg(feature = "read")]
+mod bitmap_read;
+#[cfg(feature = "write")]
+mod bitmap_write;
+#[cfg(feature = "buckets")]
+mod buckets;
+#[cfg(feature = "combine")]
+mod combine;
+#[cfg(feature = "combine")]
+mod plans;
+#[cfg(feature = "rows")]
+mod rows;
+
+/// How often each refusal number was reached; 0 stands for acceptance.
+#[derive(Default)]
+pub struct Tally(pub BTreeMap<u32, u64>);
+
+impl Tally {
+    pub fn count<T>(&mut self, outcome: &Result<T, u32>) {
+        let number = outcome.as_ref().err().copied().unwrap_or(0);
+        *self.0.entry(number).or_default() += 1;
+    }
+}
+
+/// The case of this number: some are edges, the others random. A difference is an error that shows
+/// the inputs and both answers.
+type RunCase = fn(u64, &mut Random, &mut Tally) -> Result<(), String>;
+
+pub struct Group {
+    pub name: &'static str,
+    /// The refusal numbers that a run must reach, beside acceptance.
+    pub refusals: &'static [u32],
+    pub default_cases: u64,
+    pub run_case: RunCase,
+}
+
+/// The groups whose calls are linked.
+pub fn groups() -> Vec<Group> {
+    vec![
+        #[cfg(feature = "read")]
+        Group {
+            name: "bitmap_read",
+            refusals: &[1, 2, 3, 4, 5, 6, 7, 8, 9, 10, 11],
+            default_cases: 200_000,
+            run_case: bitmap_read::run_case,
+        },
+        #[cfg(feature = "write")]
+        Group {
+            name: "bitmap_write",
+            refusals: &[12, 13],
+            default_cases: 50_000,
+            run_case: bitmap_write::run_case,
+        },
+        #[cfg(feature = "combine")]
+        Group {
+            name: "combine",
+            refusals: &[1, 2, 3, 4, 5, 6, 7, 8, 9, 10, 11, 13],
+            default_cases: 50_000,
+            run_case: combine::run_case,
+        },
+        #[cfg(feature = "combine")]
+        Group { name: "plans", refusals: &[13], default_cases: 10_000, run_case: plans::run_case },
+        #[cfg(feature = "rows")]
+        Group {
+            name: "rows",
+            refusals: &[20, 21, 22, 23, 24, 25],
+            default_cases: 200_000,
+            run_case: rows::run_case,
+        },
+        #[cfg(feature = "buckets")]
+        Group {
+            name: "buckets",
+            refusals: &[20, 25, 30, 31, 32, 33, 34, 35, 36, 37],
+            default_cases: 200_000,
+            run_case: buckets::run_case,
+        },
+    ]
+}
+
+/// The cases from here on are the edges of a group, as many as it has.
+const FIRST_EDGE: u64 = 1000;
+
+fn edge_number(case: u64) -> Option<u64> {
+    case.checked_sub(FIRST_EDGE)
+}
+
+/// Each case has its own random numbers, so it can be run again alone.
+pub fn case_random(seed: u64, group: &Group, case: u64) -> Random {
+    let name = group
+        .name
+        .bytes()
+        .fold(0u64, |sum, byte| sum.wrapping_mul(0x100_0000_01B3).wrapping_add(u64::from(byte)));
+    let mut first = Random::new(seed ^ name);
+    Random::new(first.word() ^ case.wrapping_mul(0xA076_1D64_78BD_642F))
+}
+
+const SHOWN: usize = 4000;
+
+pub fn hex(bytes: &[u8]) -> String {
+    let mut text: Vec<String> = bytes.iter().take(SHOWN).map(|b| format!("{b:02X}")).collect();
+    if bytes.len() > SHOWN {
+        text.push("...".to_string());
+    }
+    format!("({} bytes) {}", bytes.len(), text.join(" "))
+}
+
+fn short<T: Debug>(answer: &T) -> String {
+    let text = format!("{answer:?}");
+    match text.char_indices().nth(SHOWN) {
+        Some((end, _)) => format!("{} ...", &text[..end]),
+        None => text,
+    }
+}
+
+/// An error with both answers unless they are the same.
+fn same<T: Debug + PartialEq>(
+    question: impl FnOnce() -> String,
+    library: Result<T, String>,
+    reference: T,
+) -> Result<(), String> {
+    match library {
+        Ok(answer) if answer == reference => Ok(()),
+        Ok(answer) => Err(format!(
+            "{}\nlibrary:   {}\nreference: {}",
+            question(),
+            short(&answer),
+            short(&reference)
+        )),
+        Err(harm) => {
+            Err(format!("{}\nlibrary:   {harm}\nreference: {}", question(), short(&reference)))
+        }
+    }
+}
+
+#[cfg(any(feature = "write", feature = "combine"))]
+const LONGEST_FORM: usize = 267_366;
+
+/// A room near the length of the form, or far from it.
+#[cfg(any(feature = "write", feature = "combine"))]
+fn room_around(random: &mut Random, length: usize) -> usize {
+    match random.below(8) {
+        0 => 0,
+        1 => random.below(length),
+        2 => length - 1,
+        3 => length + 1,
+        4 => length + random.below(300),
+        _ => length,
+    }
+}
+
+/// A row or column to ask for: mostly one of `count`, at times an absent one.
+#[cfg(any(feature = "rows", feature = "buckets"))]
+fn any_index(random: &mut Random, count: usize) -> u32 {
+    match random.below(12) {
+        0 => count as u32,
+        1 => random.pick(&[0, 64, 65_536, u32::MAX]),
+        _ => random.below(count.max(1)) as u32,
+    }
+}

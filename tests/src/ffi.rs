@@ -1,0 +1,599 @@
+//! The library's calls, and wrappers that lend guarded buffers and look after every call at what it
+//! did to the caller's memory.
+
+use crate::generate::Random;
+use std::ptr::NonNull;
+
+/// What a call answered: its outputs or its refusal. The outer error tells of harmed memory.
+pub type Called<T> = Result<Result<T, u32>, String>;
+
+const GUARD: usize = 24;
+
+/// A number that fills lent memory.
+pub trait Cell: Copy + PartialEq {
+    fn from_bits(bits: u64) -> Self;
+}
+
+macro_rules! cell {
+    ($($number:ty),*) => {$(
+        impl Cell for $number {
+            fn from_bits(bits: u64) -> Self {
+                bits as $number
+            }
+        }
+    )*};
+}
+cell!(u8, u32, u64, i64, usize);
+
+/// A lent slice with guard cells before and behind it.
+pub struct Lent<T> {
+    name: &'static str,
+    cells: Vec<T>,
+    before: Vec<T>,
+    start: usize,
+    length: usize,
+    /// An empty slice may be lent with a pointer to no memory at all.
+    dangling: bool,
+}
+
+impl<T: Cell> Lent<T> {
+    /// An output: every cell holds a random pattern.
+    pub fn output(name: &'static str, length: usize, random: &mut Random) -> Self {
+        let start = random.between(1, GUARD);
+        let mut pattern = random.word();
+        let cells: Vec<T> = (0..start + length + GUARD)
+            .map(|_| {
+                pattern = pattern.rotate_left(9).wrapping_add(0x9E37_79B9_7F4A_7C15);
+                T::from_bits(pattern)
+            })
+            .collect();
+        Lent { name, before: cells.clone(), cells, start, length, dangling: random.once_in(2) }
+    }
+
+    pub fn input(name: &'static str, content: &[T], random: &mut Random) -> Self {
+        let mut lent = Lent::output(name, 0, random);
+        lent.length = content.len();
+        let start = lent.start;
+        lent.cells.splice(start..start, content.iter().copied());
+        lent.before = lent.cells.clone();
+        lent
+    }
+
+    /// One number that a call may read and set.
+    pub fn scalar(name: &'static str, value: T, random: &mut Random) -> Self {
+        Lent::input(name, &[value], random)
+    }
+
+    pub fn content(&self) -> &[T] {
+        &self.cells[self.start..self.start + self.length]
+    }
+
+    pub fn value(&self) -> T {
+        self.cells[self.start]
+    }
+
+    fn pointer(&self) -> *const T {
+        if self.length == 0 && self.dangling {
+            return NonNull::dangling().as_ptr();
+        }
+        self.content().as_ptr()
+    }
+
+    fn pointer_mut(&mut self) -> *mut T {
+        if self.length == 0 && self.dangling {
+            return NonNull::dangling().as_ptr();
+        }
+        self.cells[self.start..].as_mut_ptr()
+    }
+}
+
+/// Lent memory that can be looked at after a call.
+trait Memory {
+    /// An error unless every cell but the first `free` of the lent slice is as before.
+    fn unharmed(&self, free: usize) -> Result<(), String>;
+}
+
+impl<T: Cell> Memory for Lent<T> {
+    fn unharmed(&self, free: usize) -> Result<(), String> {
+        let free = self.start..self.start + free;
+        if self.cells[..free.start] == self.before[..free.start]
+            && self.cells[free.end..] == self.before[free.end..]
+        {
+            return Ok(());
+        }
+        let changed = (0..self.cells.len())
+            .find(|&i| !free.contains(&i) && self.cells[i] != self.before[i])
+            .unwrap_or(0);
+        Err(format!(
+            "memory harmed: '{}' of {} cells changed at cell {}",
+            self.name,
+            self.length,
+            changed as i64 - self.start as i64
+        ))
+    }
+}
+
+/// The answer of a call that returned `code`, if it kept to the memory it may change: nothing of
+/// the inputs, on success the first cells of each output, as many as its number says.
+fn settle<T>(
+    code: u32,
+    inputs: &[&dyn Memory],
+    outputs: &[(&dyn Memory, usize)],
+    answer: impl FnOnce() -> T,
+) -> Called<T> {
+    for input in inputs {
+        input.unharmed(0)?;
+    }
+    for &(output, free) in outputs {
+        output.unharmed(if code == 0 { free } else { 0 })?;
+    }
+    Ok(if code == 0 { Ok(answer()) } else { Err(code) })
+}
+
+/// A 0 or 1, as the interface promises.
+fn mark(name: &str, value: u8) -> Result<bool, String> {
+    match value {
+        0 => Ok(false),
+        1 => Ok(true),
+        _ => Err(format!("'{name}' is {value}, neither 0 nor 1")),
+    }
+}
+
+fn within(name: &str, length: usize, room: usize) -> Result<usize, String> {
+    if length > room {
+        return Err(format!("'{name}' is {length} with a room of {room}"));
+    }
+    Ok(length)
+}
+
+#[cfg(feature = "read")]
+pub mod read {
+    use super::*;
+
+    mod calls {
+        extern "C" {
+            pub fn bv_bitmap_check(bytes: *const u8, len: usize, cardinality: *mut u32) -> u32;
+            pub fn bv_bitmap_probe(
+                bytes: *const u8,
+                len: usize,
+                position: u32,
+                member: *mut u8,
+            ) -> u32;
+            pub fn bv_bitmap_rank(
+                bytes: *const u8,
+                len: usize,
+                position: u32,
+                below: *mut u32,
+            ) -> u32;
+            pub fn bv_bitmap_page(
+                bytes: *const u8,
+                len: usize,
+                place: *mut u32,
+                finished: *mut u8,
+                list: *mut u32,
+                room: usize,
+                given: *mut u32,
+            ) -> u32;
+        }
+    }
+    pub use calls::*;
+
+    pub fn check(bytes: &Lent<u8>, random: &mut Random) -> Called<u32> {
+        let mut cardinality = Lent::output("cardinality", 1, random);
+        let code =
+            unsafe { bv_bitmap_check(bytes.pointer(), bytes.length, cardinality.pointer_mut()) };
+        settle(code, &[bytes], &[(&cardinality, 1)], || cardinality.value())
+    }
+
+    pub fn probe(bytes: &Lent<u8>, position: u32, random: &mut Random) -> Called<bool> {
+        let mut member = Lent::output("member", 1, random);
+        let code = unsafe {
+            bv_bitmap_probe(bytes.pointer(), bytes.length, position, member.pointer_mut())
+        };
+        match settle(code, &[bytes], &[(&member, 1)], || member.value())? {
+            Ok(value) => Ok(Ok(mark("member", value)?)),
+            Err(refusal) => Ok(Err(refusal)),
+        }
+    }
+
+    pub fn rank(bytes: &Lent<u8>, position: u32, random: &mut Random) -> Called<u32> {
+        let mut below = Lent::output("below", 1, random);
+        let code =
+            unsafe { bv_bitmap_rank(bytes.pointer(), bytes.length, position, below.pointer_mut()) };
+        settle(code, &[bytes], &[(&below, 1)], || below.value())
+    }
+
+    /// The place and mark after a page, and the members that it gave.
+    pub type Page = (u32, u8, Vec<u32>);
+
+    pub fn page(
+        bytes: &Lent<u8>,
+        place: u32,
+        finished: u8,
+        room: usize,
+        random: &mut Random,
+    ) -> Called<Page> {
+        let mut place = Lent::scalar("place", place, random);
+        let mut finished = Lent::scalar("finished", finished, random);
+        let mut given = Lent::output("given", 1, random);
+        let mut list = Lent::output("list", room, random);
+        let code = unsafe {
+            bv_bitmap_page(
+                bytes.pointer(),
+                bytes.length,
+                place.pointer_mut(),
+                finished.pointer_mut(),
+                list.pointer_mut(),
+                room,
+                given.pointer_mut(),
+            )
+        };
+        let mut count = 0;
+        if code == 0 {
+            count = within("given", given.value() as usize, room)?;
+        }
+        let outputs: [(&dyn Memory, usize); 4] =
+            [(&place, 1), (&finished, 1), (&list, count), (&given, 1)];
+        settle(code, &[bytes], &outputs, || {
+            (place.value(), finished.value(), list.content()[..count].to_vec())
+        })
+    }
+}
+
+/// Lends an output of `room` bytes and gives what the call wrote into it.
+#[cfg(any(feature = "write", feature = "combine"))]
+fn written(
+    inputs: &[&dyn Memory],
+    room: usize,
+    random: &mut Random,
+    call: impl FnOnce(*mut u8, usize, *mut usize) -> u32,
+) -> Called<Vec<u8>> {
+    let mut out = Lent::output("out", room, random);
+    let mut length = Lent::output("length", 1, random);
+    let code = call(out.pointer_mut(), room, length.pointer_mut());
+    let mut count = 0;
+    if code == 0 {
+        count = within("length", length.value(), room)?;
+    }
+    settle(code, inputs, &[(&out, count), (&length, 1)], || out.content()[..count].to_vec())
+}
+
+#[cfg(feature = "write")]
+pub mod write {
+    use super::*;
+
+    mod calls {
+        extern "C" {
+            pub fn bv_bitmap_write(
+                positions: *const u32,
+                count: usize,
+                out: *mut u8,
+                room: usize,
+                length: *mut usize,
+            ) -> u32;
+        }
+    }
+    pub use calls::*;
+
+    pub fn write(positions: &Lent<u32>, room: usize, random: &mut Random) -> Called<Vec<u8>> {
+        written(&[positions], room, random, |out, room, length| unsafe {
+            bv_bitmap_write(positions.pointer(), positions.length, out, room, length)
+        })
+    }
+}
+
+#[cfg(feature = "combine")]
+pub mod combine {
+    use super::*;
+    use crate::reference::bitmap::Operation;
+
+    pub type Call =
+        unsafe extern "C" fn(*const u8, usize, *const u8, usize, *mut u8, usize, *mut usize) -> u32;
+
+    mod calls {
+        macro_rules! combine {
+            ($($name:ident),*) => {
+                extern "C" {$(
+                    pub fn $name(
+                        a: *const u8,
+                        a_len: usize,
+                        b: *const u8,
+                        b_len: usize,
+                        out: *mut u8,
+                        room: usize,
+                        length: *mut usize,
+                    ) -> u32;
+                )*}
+            };
+        }
+        combine!(
+            bv_bitmap_union,
+            bv_bitmap_intersection,
+            bv_bitmap_difference,
+            bv_bitmap_symmetric_difference
+        );
+    }
+
+    pub fn call(operation: Operation) -> Call {
+        match operation {
+            Operation::Union => calls::bv_bitmap_union,
+            Operation::Intersection => calls::bv_bitmap_intersection,
+            Operation::Difference => calls::bv_bitmap_difference,
+            Operation::SymmetricDifference => calls::bv_bitmap_symmetric_difference,
+        }
+    }
+
+    pub fn combine(
+        operation: Operation,
+        a: &Lent<u8>,
+        b: &Lent<u8>,
+        room: usize,
+        random: &mut Random,
+    ) -> Called<Vec<u8>> {
+        let call = call(operation);
+        written(&[a, b], room, random, |out, room, length| unsafe {
+            call(a.pointer(), a.length, b.pointer(), b.length, out, room, length)
+        })
+    }
+}
+
+/// The outputs of a field call: kind, whole, bits, nanos, start, length.
+#[cfg(any(feature = "rows", feature = "buckets"))]
+#[derive(Clone, Copy, Debug, PartialEq, Eq)]
+pub struct Field {
+    pub kind: u8,
+    pub whole: i64,
+    pub bits: u64,
+    pub nanos: u32,
+    pub start: usize,
+    pub length: usize,
+}
+
+#[cfg(any(feature = "rows", feature = "buckets"))]
+impl From<crate::reference::Answer> for Field {
+    fn from(answer: crate::reference::Answer) -> Field {
+        use crate::reference::Answer;
+        let mut field = Field { kind: 0, whole: 0, bits: 0, nanos: 0, start: 0, length: 0 };
+        match answer {
+            Answer::Null => {}
+            Answer::YesNo(yes) => (field.kind, field.whole) = (1, yes.into()),
+            Answer::Whole(whole) => (field.kind, field.whole) = (2, whole),
+            Answer::Float(bits) => (field.kind, field.bits) = (3, bits.into()),
+            Answer::Double(bits) => (field.kind, field.bits) = (4, bits),
+            Answer::Time { count, nanos } => {
+                (field.kind, field.whole, field.nanos) = (5, count, nanos)
+            }
+            Answer::Place { start, length } => {
+                (field.kind, field.start, field.length) = (6, start, length)
+            }
+        }
+        field
+    }
+}
+
+/// Pointers to the six outputs of a field call.
+#[cfg(any(feature = "rows", feature = "buckets"))]
+pub struct FieldPointers {
+    pub kind: *mut u8,
+    pub whole: *mut i64,
+    pub bits: *mut u64,
+    pub nanos: *mut u32,
+    pub start: *mut usize,
+    pub length: *mut usize,
+}
+
+/// Lends the six outputs of a field call.
+#[cfg(any(feature = "rows", feature = "buckets"))]
+fn field(
+    inputs: &[&dyn Memory],
+    random: &mut Random,
+    call: impl FnOnce(FieldPointers) -> u32,
+) -> Called<Field> {
+    let mut kind = Lent::output("kind", 1, random);
+    let mut whole = Lent::output("whole", 1, random);
+    let mut bits = Lent::output("bits", 1, random);
+    let mut nanos = Lent::output("nanos", 1, random);
+    let mut start = Lent::output("start", 1, random);
+    let mut length = Lent::output("length", 1, random);
+    let code = call(FieldPointers {
+        kind: kind.pointer_mut(),
+        whole: whole.pointer_mut(),
+        bits: bits.pointer_mut(),
+        nanos: nanos.pointer_mut(),
+        start: start.pointer_mut(),
+        length: length.pointer_mut(),
+    });
+    let outputs: [(&dyn Memory, usize); 6] =
+        [(&kind, 1), (&whole, 1), (&bits, 1), (&nanos, 1), (&start, 1), (&length, 1)];
+    settle(code, inputs, &outputs, || Field {
+        kind: kind.value(),
+        whole: whole.value(),
+        bits: bits.value(),
+        nanos: nanos.value(),
+        start: start.value(),
+        length: length.value(),
+    })
+}
+
+#[cfg(feature = "rows")]
+pub mod rows {
+    use super::*;
+
+    mod calls {
+        extern "C" {
+            pub fn bv_schema_check(schema: *const u8, len: usize, columns: *mut u32) -> u32;
+            pub fn bv_schema_column(
+                schema: *const u8,
+                len: usize,
+                column: u32,
+                kind: *mut u8,
+                nullable: *mut u8,
+                size: *mut u32,
+                scale: *mut u32,
+            ) -> u32;
+            pub fn bv_block_check(
+                schema: *const u8,
+                schema_len: usize,
+                block: *const u8,
+                block_len: usize,
+                rows: *mut u32,
+            ) -> u32;
+            pub fn bv_block_field(
+                schema: *const u8,
+                schema_len: usize,
+                block: *const u8,
+                block_len: usize,
+                row: u32,
+                column: u32,
+                kind: *mut u8,
+                whole: *mut i64,
+                bits: *mut u64,
+                nanos: *mut u32,
+                start: *mut usize,
+                length: *mut usize,
+            ) -> u32;
+        }
+    }
+    pub use calls::*;
+
+    pub fn schema_check(schema: &Lent<u8>, random: &mut Random) -> Called<u32> {
+        let mut columns = Lent::output("columns", 1, random);
+        let code =
+            unsafe { bv_schema_check(schema.pointer(), schema.length, columns.pointer_mut()) };
+        settle(code, &[schema], &[(&columns, 1)], || columns.value())
+    }
+
+    /// The type's id, whether it may be null, its length or precision, its scale.
+    pub type Column = (u8, bool, u32, u32);
+
+    pub fn schema_column(schema: &Lent<u8>, column: u32, random: &mut Random) -> Called<Column> {
+        let mut kind = Lent::output("type", 1, random);
+        let mut nullable = Lent::output("nullable", 1, random);
+        let mut size = Lent::output("size", 1, random);
+        let mut scale = Lent::output("scale", 1, random);
+        let code = unsafe {
+            bv_schema_column(
+                schema.pointer(),
+                schema.length,
+                column,
+                kind.pointer_mut(),
+                nullable.pointer_mut(),
+                size.pointer_mut(),
+                scale.pointer_mut(),
+            )
+        };
+        let outputs: [(&dyn Memory, usize); 4] =
+            [(&kind, 1), (&nullable, 1), (&size, 1), (&scale, 1)];
+        if let Err(refusal) = settle(code, &[schema], &outputs, || ())? {
+            return Ok(Err(refusal));
+        }
+        let nullable = mark("nullable", nullable.value())?;
+        Ok(Ok((kind.value(), nullable, size.value(), scale.value())))
+    }
+
+    pub fn block_check(schema: &Lent<u8>, block: &Lent<u8>, random: &mut Random) -> Called<u32> {
+        let mut rows = Lent::output("rows", 1, random);
+        let code = unsafe {
+            bv_block_check(
+                schema.pointer(),
+                schema.length,
+                block.pointer(),
+                block.length,
+                rows.pointer_mut(),
+            )
+        };
+        settle(code, &[schema, block], &[(&rows, 1)], || rows.value())
+    }
+
+    pub fn block_field(
+        schema: &Lent<u8>,
+        block: &Lent<u8>,
+        row: u32,
+        column: u32,
+        random: &mut Random,
+    ) -> Called<Field> {
+        field(&[schema, block], random, |to| unsafe {
+            bv_block_field(
+                schema.pointer(),
+                schema.length,
+                block.pointer(),
+                block.length,
+                row,
+                column,
+                to.kind,
+                to.whole,
+                to.bits,
+                to.nanos,
+                to.start,
+                to.length,
+            )
+        })
+    }
+}
+
+#[cfg(feature = "buckets")]
+pub mod buckets {
+    use super::*;
+
+    mod calls {
+        extern "C" {
+            pub fn bv_bucket_check(
+                schema: *const u8,
+                schema_len: usize,
+                rows: u32,
+                bucket: *const u8,
+                bucket_len: usize,
+            ) -> u32;
+            pub fn bv_bucket_field(
+                schema: *const u8,
+                schema_len: usize,
+                rows: u32,
+                bucket: *const u8,
+                bucket_len: usize,
+                row: u32,
+                column: u32,
+                kind: *mut u8,
+                whole: *mut i64,
+                bits: *mut u64,
+                nanos: *mut u32,
+                start: *mut usize,
+                length: *mut usize,
+            ) -> u32;
+        }
+    }
+    pub use calls::*;
+
+    pub fn bucket_check(schema: &Lent<u8>, rows: u32, bucket: &Lent<u8>) -> Called<()> {
+        let code = unsafe {
+            bv_bucket_check(schema.pointer(), schema.length, rows, bucket.pointer(), bucket.length)
+        };
+        settle(code, &[schema, bucket], &[], || ())
+    }
+
+    pub fn bucket_field(
+        schema: &Lent<u8>,
+        rows: u32,
+        bucket: &Lent<u8>,
+        row: u32,
+        column: u32,
+        random: &mut Random,
+    ) -> Called<Field> {
+        field(&[schema, bucket], random, |to| unsafe {
+            bv_bucket_field(
+                schema.pointer(),
+                schema.length,
+                rows,
+                bucket.pointer(),
+                bucket.length,
+                row,
+                column,
+                to.kind,
+                to.whole,
+                to.bits,
+                to.nanos,
+                to.start,
+                to.length,
+            )
+        })
+    }
+}

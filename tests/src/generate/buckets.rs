@@ -1,0 +1,449 @@
+//! Buckets over random schemas, row counts and encodings, sound and damaged towards each refusal.
+
+use super::schema::{
+    bad_counted, bad_nanoseconds, bad_varint, bits_width, columns, damaged_schema, push_counted,
+    push_varint, schema_bytes, value, Value,
+};
+use super::{damage_bytes, Random};
+use crate::reference::schema::{Column, Type};
+
+/// A schema, a number of rows and a bucket.
+pub struct Case {
+    pub schema: Vec<u8>,
+    pub rows: u32,
+    pub bucket: Vec<u8>,
+}
+
+/// The columns of a bucket, and for each column what each row holds.
+pub type Content = Vec<(Column, Vec<Option<Value>>)>;
+
+pub const PLAIN: u8 = 0;
+pub const CONST: u8 = 1;
+pub const DICT: u8 = 2;
+pub const ALL_NULL: u8 = 3;
+
+/// One column before it is laid out. It holds only the parts that its encoding has.
+struct ColumnDraft {
+    tag: u8,
+    has_nulls: bool,
+    /// What each row holds; nothing stands for null.
+    cells: Vec<Option<Value>>,
+    constant: Vec<u8>,
+    /// The number of entries as it is written, then each entry.
+    table: Vec<Vec<u8>>,
+    nulls: Vec<u8>,
+    plain: Vec<Vec<u8>>,
+    indexes: Vec<u8>,
+    index_count: usize,
+}
+
+/// A bucket part by part, before damage.
+struct Draft {
+    columns: Vec<Column>,
+    rows: usize,
+    header: [Vec<u8>; 2],
+    tag_spare: u8,
+    has_nulls_spare: u8,
+    drafts: Vec<ColumnDraft>,
+    tail: Vec<u8>,
+}
+
+impl Draft {
+    fn bytes(&self) -> Vec<u8> {
+        let mut out = self.header.concat();
+        let tags: Vec<usize> = self.drafts.iter().map(|draft| usize::from(draft.tag)).collect();
+        push_spare(&pack_low_first(&tags, 2), self.tag_spare, &mut out);
+        let marks: Vec<usize> = self.drafts.iter().map(|d| usize::from(d.has_nulls)).collect();
+        push_spare(&pack_low_first(&marks, 1), self.has_nulls_spare, &mut out);
+        for draft in &self.drafts {
+            out.extend_from_slice(&draft.constant);
+        }
+        for draft in &self.drafts {
+            out.extend(draft.table.concat());
+        }
+        for draft in &self.drafts {
+            out.extend_from_slice(&draft.nulls);
+        }
+        for draft in &self.drafts {
+            out.extend(draft.plain.concat());
+            out.extend_from_slice(&draft.indexes);
+        }
+        out.extend_from_slice(&self.tail);
+        out
+    }
+}
+
+fn push_spare(array: &[u8], spare: u8, out: &mut Vec<u8>) {
+    out.extend_from_slice(array);
+    if let Some(last) = out.last_mut() {
+        *last |= spare;
+    }
+}
+
+/// Packs numbers of `width` bits, low bits first.
+fn pack_low_first(values: &[usize], width: usize) -> Vec<u8> {
+    let mut out = vec![0; (values.len() * width).div_ceil(8)];
+    for (i, &value) in values.iter().enumerate() {
+        for bit in 0..width {
+            let place = i * width + bit;
+            out[place / 8] |= ((value >> bit & 1) as u8) << (place % 8);
+        }
+    }
+    out
+}
+
+/// Appends a value in the layout of source 000: big endian.
+fn push_value(kind: Type, value: &Value, out: &mut Vec<u8>) {
+    match value {
+        Value::Bits(bits) => out.extend_from_slice(&bits.to_be_bytes()[8 - bits_width(kind)..]),
+        Value::Time { count, nanos } => {
+            out.extend(count.to_be_bytes());
+            if kind.size() > 6 {
+                out.extend(nanos.to_be_bytes());
+            }
+        }
+        Value::Counted(bytes) => push_counted(bytes, out),
+        Value::Raw(bytes) => out.extend_from_slice(bytes),
+    }
+}
+
+fn value_bytes(kind: Type, value: &Value) -> Vec<u8> {
+    let mut out = Vec::new();
+    push_value(kind, value, &mut out);
+    out
+}
+
+fn row_count(random: &mut Random) -> usize {
+    match random.below(2000) {
+        0 => random.pick(&[65_535, 65_536]),
+        1..=20 => random.between(100, 1000),
+        21..=200 => random.between(15, 40),
+        201..=400 => 0,
+        401..=600 => 1,
+        601..=900 => random.between(7, 9),
+        _ => random.between(1, 6),
+    }
+}
+
+fn any_draft(random: &mut Random) -> Draft {
+    let rows = row_count(random);
+    let mut columns = columns(random);
+    if rows > 1000 {
+        columns.truncate(2);
+    }
+    let tags: Vec<u8> = columns.iter().map(|_| random.below(4) as u8).collect();
+    draft_of(random, columns, rows, &tags)
+}
+
+/// A sound bucket; the tags go round over the columns.
+fn draft_of(random: &mut Random, columns: Vec<Column>, rows: usize, tags: &[u8]) -> Draft {
+    let drafts = columns
+        .iter()
+        .zip(tags.iter().cycle())
+        .map(|(column, &tag)| any_column(random, column, rows, tag))
+        .collect();
+    let mut header = [Vec::new(), vec![0]];
+    push_varint(columns.len() as u32, &mut header[0]);
+    Draft { columns, rows, header, tag_spare: 0, has_nulls_spare: 0, drafts, tail: Vec::new() }
+}
+
+fn any_column(random: &mut Random, column: &Column, rows: usize, tag: u8) -> ColumnDraft {
+    let tag = if tag == ALL_NULL && !column.nullable && rows > 0 { PLAIN } else { tag };
+    let mut draft = ColumnDraft {
+        tag,
+        has_nulls: random.once_in(2),
+        cells: vec![None; rows],
+        constant: Vec::new(),
+        table: Vec::new(),
+        nulls: Vec::new(),
+        plain: Vec::new(),
+        indexes: Vec::new(),
+        index_count: 0,
+    };
+    if tag == ALL_NULL {
+        return draft;
+    }
+    let share = random.pick(&[1, 2, 5, 1000]);
+    let nulls: Vec<usize> = (0..rows)
+        .map(|_| usize::from(draft.has_nulls && column.nullable && random.once_in(share)))
+        .collect();
+    if draft.has_nulls {
+        draft.nulls = pack_low_first(&nulls, 1);
+    }
+    let filled: Vec<usize> = (0..rows).filter(|&row| nulls[row] == 0).collect();
+    match tag {
+        PLAIN => fill_plain(random, column.kind, &filled, &mut draft),
+        CONST => {
+            let value = value(random, column.kind);
+            draft.constant = value_bytes(column.kind, &value);
+            filled.iter().for_each(|&row| draft.cells[row] = Some(value.clone()));
+        }
+        _ => fill_dictionary(random, column.kind, &filled, &mut draft),
+    }
+    draft
+}
+
+fn fill_plain(random: &mut Random, kind: Type, filled: &[usize], draft: &mut ColumnDraft) {
+    for &row in filled {
+        let value = value(random, kind);
+        draft.plain.push(value_bytes(kind, &value));
+        draft.cells[row] = Some(value);
+    }
+}
+
+fn index_width(entries: usize) -> usize {
+    (1..=8).find(|&width| entries <= 1 << width).unwrap_or(8)
+}
+
+fn fill_dictionary(random: &mut Random, kind: Type, filled: &[usize], draft: &mut ColumnDraft) {
+    let count = match random.below(10) {
+        0 => random.between(2, 255),
+        1 => random.pick(&[8, 9, 16, 17, 127, 128, 129, 254, 255]),
+        _ => random.between(2, 5),
+    };
+    let entries: Vec<Value> = (0..count).map(|_| value(random, kind)).collect();
+    let mut number = Vec::new();
+    push_varint(count as u32, &mut number);
+    draft.table.push(number);
+    draft.table.extend(entries.iter().map(|entry| value_bytes(kind, entry)));
+    let mut indexes = Vec::new();
+    for &row in filled {
+        let index = random.below(count);
+        indexes.push(index);
+        draft.cells[row] = Some(entries[index].clone());
+    }
+    draft.indexes = pack_low_first(&indexes, index_width(count));
+    draft.index_count = filled.len();
+}
+
+/// A bucket of these columns and rows; the tags go round over the columns.
+pub fn filled(random: &mut Random, columns: &[Column], rows: usize, tags: &[u8]) -> Vec<u8> {
+    draft_of(random, columns.to_vec(), rows, tags).bytes()
+}
+
+/// A sound bucket and what it holds.
+pub fn sound_with_content(random: &mut Random) -> (Case, Content) {
+    let draft = any_draft(random);
+    let case = Case {
+        schema: schema_bytes(&draft.columns),
+        rows: draft.rows as u32,
+        bucket: draft.bytes(),
+    };
+    let cells = draft.drafts.into_iter().map(|column| column.cells);
+    (case, draft.columns.into_iter().zip(cells).collect())
+}
+
+pub fn sound(random: &mut Random) -> Case {
+    sound_with_content(random).0
+}
+
+/// A bucket damaged once or twice, mostly towards a certain refusal.
+pub fn damaged(random: &mut Random) -> Case {
+    let mut draft = any_draft(random);
+    let mut schema = schema_bytes(&draft.columns);
+    let mut rows = draft.rows as u32;
+    let mut after = Vec::new();
+    for _ in 0..if random.once_in(3) { 2 } else { 1 } {
+        match random.below(16) {
+            0 => schema = damaged_schema(random, &draft.columns),
+            1 => rows = random.pick(&[65_537, 100_000, 1 << 31, u32::MAX]),
+            2 => rows = rows.wrapping_add(random.pick(&[1, 7, 8, u32::MAX])),
+            3 => break_header(random, &mut draft),
+            4 => after.push(After::Cut),
+            5..=6 => break_value(random, &mut draft),
+            7..=8 => break_table(random, &mut draft),
+            9..=10 => set_spare_bits(random, &mut draft),
+            11..=12 => add_null(random, &mut draft),
+            13 => {
+                let more = random.between(1, 3);
+                draft.tail = random.bytes(more);
+            }
+            14 if random.once_in(1000) => after.push(After::TooLong),
+            _ => after.push(After::Bytes),
+        }
+    }
+    let mut bucket = draft.bytes();
+    for damage in after {
+        match damage {
+            After::Cut => bucket.truncate(random.below(bucket.len() + 1)),
+            After::TooLong => bucket = vec![0; 16_777_217],
+            After::Bytes => damage_bytes(random, &mut bucket),
+        }
+    }
+    Case { schema, rows, bucket }
+}
+
+/// Damage of the whole bucket's bytes.
+enum After {
+    Cut,
+    TooLong,
+    Bytes,
+}
+
+fn break_header(random: &mut Random, draft: &mut Draft) {
+    let count = draft.columns.len() as u32;
+    match random.below(4) {
+        0 => draft.header[0] = bad_varint(random, count),
+        1 => {
+            draft.header[0].clear();
+            push_varint(count ^ 1 << random.below(10), &mut draft.header[0]);
+        }
+        2 => draft.header[1] = bad_varint(random, 0),
+        _ => draft.header[1] = vec![random.between(1, 127) as u8],
+    }
+}
+
+/// Makes a value bad: plain, constant or an entry.
+fn break_value(random: &mut Random, draft: &mut Draft) {
+    let start = random.below(draft.columns.len());
+    for i in 0..draft.columns.len() {
+        let at = (start + i) % draft.columns.len();
+        let Some(bad) = bad_value(random, draft.columns[at].kind) else { continue };
+        let column = &mut draft.drafts[at];
+        match column.tag {
+            CONST => column.constant = bad,
+            DICT => {
+                let entry = random.between(1, column.table.len() - 1);
+                column.table[entry] = bad;
+            }
+            PLAIN if !column.plain.is_empty() => {
+                let row = random.below(column.plain.len());
+                column.plain[row] = bad;
+            }
+            _ => continue,
+        }
+        return;
+    }
+}
+
+/// The bytes of a value that is bad in a bucket, if its type has such.
+fn bad_value(random: &mut Random, kind: Type) -> Option<Vec<u8>> {
+    match kind {
+        Type::Boolean => Some(vec![random.between(2, 255) as u8]),
+        Type::Timestamp { precision: 7.. } => {
+            let mut out = random.bytes(8);
+            out.extend(bad_nanoseconds(random).to_be_bytes());
+            Some(out)
+        }
+        Type::Decimal { precision: 0..=18, .. } => None,
+        Type::Char { .. }
+        | Type::VarChar { .. }
+        | Type::String
+        | Type::Binary { .. }
+        | Type::VarBinary { .. }
+        | Type::Bytes
+        | Type::Decimal { .. } => Some(bad_counted(random, kind)),
+        _ => None,
+    }
+}
+
+/// A wrong or ill-formed number of entries, or an index past the entries.
+fn break_table(random: &mut Random, draft: &mut Draft) {
+    let start = random.below(draft.columns.len());
+    for i in 0..draft.columns.len() {
+        let at = (start + i) % draft.columns.len();
+        let column = &mut draft.drafts[at];
+        if column.tag != DICT {
+            continue;
+        }
+        let entries = column.table.len() - 1;
+        match random.below(4) {
+            0 => column.table[0] = bad_varint(random, entries as u32),
+            1 => {
+                let number = random.pick(&[0, 1, 256, 257, 300, 65_536, u32::MAX]);
+                column.table[0].clear();
+                push_varint(number, &mut column.table[0]);
+            }
+            _ => break_index(random, column, entries),
+        }
+        return;
+    }
+}
+
+fn break_index(random: &mut Random, column: &mut ColumnDraft, entries: usize) {
+    let width = index_width(entries);
+    if entries == 1 << width || column.index_count == 0 {
+        return;
+    }
+    let at = random.below(column.index_count);
+    let index = random.between(entries, (1 << width) - 1);
+    for bit in 0..width {
+        let place = at * width + bit;
+        let mask = 1 << (place % 8);
+        if index >> bit & 1 == 1 {
+            column.indexes[place / 8] |= mask;
+        } else {
+            column.indexes[place / 8] &= !mask;
+        }
+    }
+}
+
+/// Sets spare bits of the tags, the has-nulls bits, a null bitmap or the indexes.
+fn set_spare_bits(random: &mut Random, draft: &mut Draft) {
+    let count = draft.columns.len();
+    let rows = draft.rows;
+    let at = random.below(count);
+    let column = &mut draft.drafts[at];
+    let entries = column.table.len().saturating_sub(1);
+    match random.below(4) {
+        0 => draft.tag_spare = spare_bit(random, 2 * count),
+        1 => draft.has_nulls_spare = spare_bit(random, count),
+        2 => {
+            if let Some(last) = column.nulls.last_mut() {
+                *last |= spare_bit(random, rows);
+            }
+        }
+        _ => {
+            if let Some(last) = column.indexes.last_mut() {
+                *last |= spare_bit(random, column.index_count * index_width(entries));
+            }
+        }
+    }
+}
+
+/// One of the bits after the used ones, or none.
+fn spare_bit(random: &mut Random, used: usize) -> u8 {
+    match used % 8 {
+        0 => 0,
+        first => 1 << random.between(first, 7),
+    }
+}
+
+/// A null where there was none: a set bit, or an ALL_NULL tag; also in NOT NULL columns.
+fn add_null(random: &mut Random, draft: &mut Draft) {
+    let at = random.below(draft.columns.len());
+    let column = &mut draft.drafts[at];
+    if random.once_in(2) {
+        column.tag = ALL_NULL;
+        return;
+    }
+    if draft.rows == 0 || column.tag == ALL_NULL {
+        return;
+    }
+    if !column.has_nulls {
+        column.has_nulls = true;
+        column.nulls = vec![0; draft.rows.div_ceil(8)];
+    }
+    let row = random.below(draft.rows);
+    column.nulls[row / 8] |= 1 << (row % 8);
+}
+
+/// Buckets at the largest sizes, and one past them.
+pub fn edge(number: u64) -> Option<Case> {
+    let bytes_column = vec![1, 13, 0];
+    let case = |schema, rows, bucket| Some(Case { schema, rows, bucket });
+    match number {
+        0 => case(vec![1, 1, 0], 65_536, [vec![1, 0, 0, 0], vec![7; 65_536]].concat()),
+        1 => case(vec![1, 1, 0], 65_537, [vec![1, 0, 0, 0], vec![7; 65_537]].concat()),
+        2 => case(bytes_column, 1, one_value(16_777_216)),
+        3 => case(bytes_column, 1, one_value(16_777_217)),
+        _ => None,
+    }
+}
+
+/// A bucket of this many bytes with one long value.
+fn one_value(length: usize) -> Vec<u8> {
+    let mut out = vec![1, 0, 0, 0];
+    push_counted(&vec![0xAB; length - 8], &mut out);
+    out
+}

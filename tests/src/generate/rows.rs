@@ -1,0 +1,289 @@
+//! Row blocks over random schemas, sound and damaged towards each refusal.
+
+use super::schema::{
+    bad_counted, bad_nanoseconds, bad_varint, bits_width, columns, damaged_schema, push_counted,
+    push_varint, schema_bytes, value, Value,
+};
+use super::{damage_bytes, Random};
+use crate::reference::schema::{Column, Type};
+
+/// A schema and a block.
+pub struct Case {
+    pub schema: Vec<u8>,
+    pub block: Vec<u8>,
+}
+
+/// One row before it is laid out: nothing stands for null.
+pub type Row = Vec<Option<Value>>;
+
+/// A block part by part, before damage.
+struct Draft {
+    columns: Vec<Column>,
+    rows: Vec<Vec<u8>>,
+    gap: Vec<u8>,
+    offsets: Vec<u32>,
+    count: u32,
+}
+
+impl Draft {
+    fn new(columns: Vec<Column>, rows: Vec<Vec<u8>>) -> Draft {
+        let mut draft =
+            Draft { columns, gap: Vec::new(), offsets: Vec::new(), count: rows.len() as u32, rows };
+        draft.place_rows();
+        draft
+    }
+
+    /// Sets each offset to where its row starts.
+    fn place_rows(&mut self) {
+        let mut end = 0;
+        self.offsets.clear();
+        for row in &self.rows {
+            self.offsets.push(end);
+            end += row.len() as u32;
+        }
+    }
+
+    fn bytes(&self) -> Vec<u8> {
+        let mut out = self.rows.concat();
+        out.extend_from_slice(&self.gap);
+        for offset in &self.offsets {
+            out.extend(offset.to_le_bytes());
+        }
+        out.extend(self.count.to_le_bytes());
+        out
+    }
+}
+
+fn row_count(random: &mut Random) -> usize {
+    match random.below(300) {
+        0 => random.between(50, 400),
+        1..=15 => random.between(8, 40),
+        16..=40 => 0,
+        41..=90 => 1,
+        _ => random.between(1, 5),
+    }
+}
+
+fn any_row(random: &mut Random, columns: &[Column]) -> Row {
+    let share = random.pick(&[1, 2, 4, 1000]);
+    columns
+        .iter()
+        .map(|column| {
+            let null = column.nullable && random.once_in(share);
+            (!null).then(|| value(random, column.kind))
+        })
+        .collect()
+}
+
+fn row_bytes(columns: &[Column], row: &Row) -> Vec<u8> {
+    let mut out = vec![0; columns.len().div_ceil(8)];
+    for (i, field) in row.iter().enumerate() {
+        match field {
+            None => out[i / 8] |= 1 << (i % 8),
+            Some(value) => push_field(columns[i].kind, value, &mut out),
+        }
+    }
+    out
+}
+
+/// Appends a field in the layout of source 001: little endian.
+fn push_field(kind: Type, value: &Value, out: &mut Vec<u8>) {
+    match value {
+        Value::Bits(bits) => out.extend_from_slice(&bits.to_le_bytes()[..bits_width(kind)]),
+        Value::Time { count, nanos } => {
+            out.extend(count.to_le_bytes());
+            if kind.size() > 3 {
+                push_varint(*nanos, out);
+            }
+        }
+        Value::Counted(bytes) => push_counted(bytes, out),
+        Value::Raw(bytes) => out.extend_from_slice(bytes),
+    }
+}
+
+fn any_rows(random: &mut Random) -> (Vec<Column>, Vec<Row>) {
+    let columns = columns(random);
+    let rows = (0..row_count(random)).map(|_| any_row(random, &columns)).collect();
+    (columns, rows)
+}
+
+fn any_draft(random: &mut Random) -> Draft {
+    let (columns, rows) = any_rows(random);
+    let laid = rows.iter().map(|row| row_bytes(&columns, row)).collect();
+    Draft::new(columns, laid)
+}
+
+/// A block of these columns, as many rows as the bytes and the rows allow.
+pub fn filled(random: &mut Random, columns: &[Column], bytes: usize, rows: usize) -> Vec<u8> {
+    let mut length = 4;
+    let mut laid = Vec::new();
+    while laid.len() < rows {
+        let row = any_row(random, columns);
+        let row = row_bytes(columns, &row);
+        length += row.len() + 4;
+        if length > bytes {
+            break;
+        }
+        laid.push(row);
+    }
+    Draft::new(columns.to_vec(), laid).bytes()
+}
+
+/// A sound block and what it holds.
+pub fn sound_with_content(random: &mut Random) -> (Case, Vec<Column>, Vec<Row>) {
+    let (columns, rows) = any_rows(random);
+    let laid = rows.iter().map(|row| row_bytes(&columns, row)).collect();
+    let draft = Draft::new(columns, laid);
+    let case = Case { schema: schema_bytes(&draft.columns), block: draft.bytes() };
+    (case, draft.columns, rows)
+}
+
+pub fn sound(random: &mut Random) -> Case {
+    sound_with_content(random).0
+}
+
+/// A block damaged once or twice, mostly towards a certain refusal.
+pub fn damaged(random: &mut Random) -> Case {
+    let mut draft = any_draft(random);
+    let mut schema = schema_bytes(&draft.columns);
+    let mut after = Vec::new();
+    for _ in 0..if random.once_in(3) { 2 } else { 1 } {
+        match random.below(12) {
+            0 => schema = damaged_schema(random, &draft.columns),
+            1 => after.push(After::Short),
+            2 => break_count(random, &mut draft),
+            3..=4 => break_offsets(random, &mut draft),
+            5 => break_end(random, &mut draft),
+            6..=9 => break_row(random, &mut draft),
+            10 if random.once_in(500) => after.push(After::TooLong),
+            _ => after.push(After::Bytes),
+        }
+    }
+    let mut block = draft.bytes();
+    for damage in after {
+        match damage {
+            After::Short => block.truncate(random.below(4)),
+            After::TooLong => block = vec![0; 16_777_217],
+            After::Bytes => damage_bytes(random, &mut block),
+        }
+    }
+    Case { schema, block }
+}
+
+/// Damage of the whole block's bytes.
+enum After {
+    Short,
+    TooLong,
+    Bytes,
+}
+
+fn break_count(random: &mut Random, draft: &mut Draft) {
+    draft.count = match random.below(5) {
+        0 => random.between(65_537, 1 << 30) as u32,
+        1 => random.pick(&[1 << 31, u32::MAX, 0x8000_0001]),
+        2 => draft.count.wrapping_add(1),
+        3 => draft.count.wrapping_sub(1),
+        _ => draft.count + random.below(70_000) as u32,
+    };
+}
+
+fn break_offsets(random: &mut Random, draft: &mut Draft) {
+    let at = random.below(draft.offsets.len().max(1));
+    let Some(offset) = draft.offsets.get_mut(at) else { return };
+    *offset = match random.below(4) {
+        0 => offset.wrapping_add(1),
+        1 => offset.wrapping_sub(1),
+        2 => random.below(100) as u32,
+        _ => random.word() as u32,
+    };
+}
+
+/// Bytes between the last row and the offsets, or a last row that is cut.
+fn break_end(random: &mut Random, draft: &mut Draft) {
+    if random.once_in(2) {
+        let more = random.between(1, 5);
+        draft.gap = random.bytes(more);
+    } else if let Some(last) = draft.rows.last_mut() {
+        last.truncate(random.below(last.len().max(1)));
+    }
+}
+
+/// Damage in one row's bytes; its offsets are set anew, mostly.
+fn break_row(random: &mut Random, draft: &mut Draft) {
+    if draft.rows.is_empty() {
+        return;
+    }
+    let at = random.below(draft.rows.len());
+    let mut row = any_row(random, &draft.columns);
+    let column = random.below(draft.columns.len());
+    let mut spare = false;
+    match random.below(4) {
+        0 => spare = true,
+        1 => row[column] = None,
+        _ => {
+            let kind = draft.columns[column].kind;
+            if let Some(bytes) = bad_field(random, kind) {
+                row[column] = Some(Value::Raw(bytes));
+            }
+        }
+    }
+    let mut bytes = row_bytes(&draft.columns, &row);
+    let used = draft.columns.len();
+    if spare && !used.is_multiple_of(8) {
+        bytes[used / 8] |= 1 << random.between(used % 8, 7);
+    }
+    draft.rows[at] = bytes;
+    if !random.once_in(5) {
+        draft.place_rows();
+    }
+}
+
+/// The bytes of a field that is bad in a row, if its type has such.
+fn bad_field(random: &mut Random, kind: Type) -> Option<Vec<u8>> {
+    match kind {
+        Type::Boolean => Some(vec![random.between(2, 255) as u8]),
+        Type::Timestamp { precision: 4.. } => {
+            let mut out = random.bytes(8);
+            if random.once_in(2) {
+                push_varint(bad_nanoseconds(random), &mut out);
+            } else {
+                out.extend(bad_varint(random, 999));
+            }
+            Some(out)
+        }
+        Type::Decimal { precision: 0..=18, .. } => None,
+        Type::Char { .. }
+        | Type::VarChar { .. }
+        | Type::String
+        | Type::Binary { .. }
+        | Type::VarBinary { .. }
+        | Type::Bytes
+        | Type::Decimal { .. } => Some(bad_counted(random, kind)),
+        _ => None,
+    }
+}
+
+/// Blocks at the largest sizes, and one past them.
+pub fn edge(number: u64) -> Option<Case> {
+    let tiny = vec![1, 1, 1];
+    let bytes_column = vec![1, 13, 0];
+    let case = |schema, block| Some(Case { schema, block });
+    match number {
+        0 => case(tiny, all_null_rows(65_536)),
+        1 => case(tiny, all_null_rows(65_537)),
+        2 => case(bytes_column, one_field(16_777_216)),
+        3 => case(bytes_column, one_field(16_777_217)),
+        _ => None,
+    }
+}
+
+fn all_null_rows(count: usize) -> Vec<u8> {
+    Draft::new(Vec::new(), vec![vec![1]; count]).bytes()
+}
+
+/// A block of this many bytes with one long field.
+fn one_field(length: usize) -> Vec<u8> {
+    let mut row = vec![0];
+    push_counted(&vec![0xAB; length - 13], &mut row);
+    Draft::new(Vec::new(), vec![row]).bytes()
+}

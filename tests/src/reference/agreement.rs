@@ -1,0 +1,166 @@
+//! The second program against plain lists and against what the generators laid out.
+
+use super::bitmap::{self, Bitmap, Operation, OPERATIONS};
+use super::buckets::Bucket;
+use super::rows::Block;
+use super::schema::Type;
+use super::Answer;
+use crate::generate::schema::Value;
+use crate::generate::{self, Random};
+use std::collections::BTreeSet;
+
+fn form(set: &[u32]) -> Vec<u8> {
+    let mut out = vec![0; 267_366];
+    let length = bitmap::write(set, &mut out).unwrap();
+    out.truncate(length);
+    out
+}
+
+#[test]
+fn sound_bitmaps_stand_for_their_set() {
+    let mut random = Random::new(1);
+    for _ in 0..3000 {
+        let set = generate::bitmap::set(&mut random);
+        let bytes = generate::bitmap::sound(&mut random, &set);
+        let judged = Bitmap::judge(&bytes).unwrap();
+        assert!(judged.members() == set);
+        assert_eq!(judged.cardinality() as usize, set.len());
+        let written = form(&set);
+        assert!(Bitmap::judge(&written).unwrap().members() == set);
+        for _ in 0..20 {
+            let position = random.below(set.last().map_or(10, |&last| last as usize + 300)) as u32;
+            assert_eq!(judged.contains(position), set.binary_search(&position).is_ok());
+            let below = set.partition_point(|&member| member < position);
+            assert_eq!(judged.rank(position) as usize, below);
+        }
+    }
+}
+
+#[test]
+fn the_form_has_the_widths_of_least_cost() {
+    let mut random = Random::new(5);
+    let cost = |b: usize, e: usize, b2: usize| 32 * b + e + (e * b2).div_ceil(8);
+    let mut ties = 0;
+    for _ in 0..3000 {
+        let set = generate::bitmap::set(&mut random);
+        let form = form(&set);
+        let smaller = generate::bitmap::packed_by(&set, |[_, b, e, b2]| (cost(b, e, b2), b));
+        assert!(smaller == form);
+        let larger = generate::bitmap::packed_by(&set, |[_, b, e, b2]| (cost(b, e, b2), 8 - b));
+        ties += usize::from(larger != form);
+    }
+    assert!(ties > 20, "{ties} sets with a tie");
+}
+
+#[test]
+fn edges_of_bitmaps() {
+    let outcome = |number| bitmap::check(&generate::bitmap::edge(number).unwrap());
+    assert_eq!(outcome(0), Ok(2_097_152));
+    assert_eq!(generate::bitmap::edge(0).unwrap().len(), 278_598);
+    assert_eq!(outcome(1), Ok(0));
+    assert_eq!(outcome(2), Err(3));
+    assert_eq!(outcome(3), Ok(2_097_152));
+}
+
+#[test]
+fn combining_is_the_operation_on_members() {
+    let mut random = Random::new(2);
+    for _ in 0..500 {
+        let first = generate::bitmap::set(&mut random);
+        let second = generate::bitmap::related_set(&mut random, &first);
+        let a = generate::bitmap::sound(&mut random, &first);
+        let b = generate::bitmap::sound(&mut random, &second);
+        let first: BTreeSet<u32> = first.into_iter().collect();
+        let second: BTreeSet<u32> = second.into_iter().collect();
+        for operation in OPERATIONS {
+            let expected: Vec<u32> = match operation {
+                Operation::Union => first.union(&second).copied().collect(),
+                Operation::Intersection => first.intersection(&second).copied().collect(),
+                Operation::Difference => first.difference(&second).copied().collect(),
+                Operation::SymmetricDifference => {
+                    first.symmetric_difference(&second).copied().collect()
+                }
+            };
+            let mut out = vec![0; 267_366];
+            let length = bitmap::combine(operation, &a, &b, &mut out).unwrap();
+            assert!(out[..length] == form(&expected));
+        }
+    }
+}
+
+/// Whether the answer shows the value. `nanos_over` is the precision over which nanoseconds are stored.
+fn shows(answer: Answer, kind: Type, value: &Option<Value>, bytes: &[u8], nanos_over: u32) -> bool {
+    match (value, answer) {
+        (None, answer) => answer == Answer::Null,
+        (Some(Value::Counted(content)), Answer::Place { start, length }) => {
+            bytes[start..start + length] == content[..]
+        }
+        (Some(Value::Time { count, nanos }), answer) => {
+            let nanos = if kind.size() > nanos_over { *nanos } else { 0 };
+            answer == Answer::Time { count: *count as i64, nanos }
+        }
+        (Some(Value::Bits(bits)), answer) => answer == plain_answer(kind, *bits),
+        _ => false,
+    }
+}
+
+fn plain_answer(kind: Type, bits: u64) -> Answer {
+    match kind {
+        Type::Boolean => Answer::YesNo(bits == 1),
+        Type::TinyInt => Answer::Whole((bits as i8).into()),
+        Type::SmallInt => Answer::Whole((bits as i16).into()),
+        Type::Integer | Type::Date | Type::Time { .. } => Answer::Whole((bits as i32).into()),
+        Type::Float => Answer::Float(bits as u32),
+        Type::Double => Answer::Double(bits),
+        _ => Answer::Whole(bits as i64),
+    }
+}
+
+#[test]
+fn sound_blocks_show_their_values() {
+    let mut random = Random::new(3);
+    for _ in 0..3000 {
+        let (case, columns, rows) = generate::rows::sound_with_content(&mut random);
+        let block = Block::judge(&case.schema, &case.block).unwrap();
+        assert_eq!(block.rows(), rows.len());
+        for (i, row) in rows.iter().enumerate() {
+            for (j, value) in row.iter().enumerate() {
+                let answer = block.field(i as u32, j as u32).unwrap();
+                assert!(shows(answer, columns[j].kind, value, &case.block, 3));
+            }
+        }
+    }
+}
+
+#[test]
+fn edges_of_blocks() {
+    let outcome = |number| {
+        let case = generate::rows::edge(number).unwrap();
+        super::rows::check(&case.schema, &case.block)
+    };
+    assert_eq!([0, 1, 2, 3].map(outcome), [Ok(65_536), Err(22), Ok(1), Err(21)]);
+}
+
+#[test]
+fn sound_buckets_show_their_values() {
+    let mut random = Random::new(4);
+    for _ in 0..3000 {
+        let (case, columns) = generate::buckets::sound_with_content(&mut random);
+        let bucket = Bucket::judge(&case.schema, case.rows, &case.bucket).unwrap();
+        for (j, (column, cells)) in columns.iter().enumerate() {
+            for (i, value) in cells.iter().enumerate().take(500) {
+                let answer = bucket.field(i as u32, j as u32).unwrap();
+                assert!(shows(answer, column.kind, value, &case.bucket, 6));
+            }
+        }
+    }
+}
+
+#[test]
+fn edges_of_buckets() {
+    let outcome = |number| {
+        let case = generate::buckets::edge(number).unwrap();
+        super::buckets::check(&case.schema, case.rows, &case.bucket)
+    };
+    assert_eq!([0, 1, 2, 3].map(outcome), [Ok(()), Err(37), Ok(()), Err(37)]);
+}

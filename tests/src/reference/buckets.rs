@@ -1,0 +1,468 @@
+//! Uncompressed monolithic Mosaic buckets with flat columns; values are big endian.
+
+use super::schema::{self, Column, Type};
+use super::varint::{self, Fault};
+use super::{Answer, Refusal, MAX_BYTES, MAX_ROWS};
+
+#[derive(Clone, Copy, PartialEq, Eq)]
+enum Encoding {
+    Plain,
+    Const,
+    Dict,
+    AllNull,
+}
+
+/// Where the parts of one column lie.
+struct Parts {
+    encoding: Encoding,
+    /// The start of the null bitmap, if there is one.
+    nulls: Option<usize>,
+    /// The start of the one value, or of each entry.
+    values: Vec<usize>,
+    /// The start of the plain values or of the indexes.
+    data: usize,
+}
+
+/// An accepted bucket.
+pub struct Bucket<'a> {
+    columns: Vec<Column>,
+    rows: usize,
+    bytes: &'a [u8],
+    parts: Vec<Parts>,
+}
+
+impl<'a> Bucket<'a> {
+    /// Judges the schema (20) and the whole bucket: 37, then 30 to 36 in layout order.
+    pub fn judge(schema: &[u8], rows: u32, bytes: &'a [u8]) -> Result<Self, Refusal> {
+        let columns = schema::read(schema)?;
+        if bytes.len() > MAX_BYTES || rows > MAX_ROWS {
+            return Err(37);
+        }
+        let mut reader = Reader { bytes, place: 0 };
+        reader.header_number(columns.len() as u32)?;
+        reader.header_number(0)?;
+        let rows = rows as usize;
+        let mut parts = reader.encodings(&columns, rows)?;
+        reader.constants_and_tables(&columns, &mut parts)?;
+        reader.null_bitmaps(&columns, rows, &mut parts)?;
+        for (column, parts) in columns.iter().zip(&mut parts) {
+            reader.data(column.kind, rows, parts)?;
+        }
+        if reader.place != bytes.len() {
+            return Err(36);
+        }
+        Ok(Bucket { columns, rows, bytes, parts })
+    }
+
+    pub fn field(&self, row: u32, column: u32) -> Result<Answer, Refusal> {
+        let (row, column) = (row as usize, column as usize);
+        if row >= self.rows || column >= self.columns.len() {
+            return Err(25);
+        }
+        let parts = &self.parts[column];
+        let Some(place) = self.value_place(parts, self.columns[column].kind, row)? else {
+            return Ok(Answer::Null);
+        };
+        Ok(read_value(self.columns[column].kind, self.bytes, place)?.0)
+    }
+
+    /// Where the value of the row starts; nothing if it is null.
+    fn value_place(&self, parts: &Parts, kind: Type, row: usize) -> Result<Option<usize>, Refusal> {
+        if parts.encoding == Encoding::AllNull {
+            return Ok(None);
+        }
+        let mut index = row;
+        if let Some(start) = parts.nulls {
+            let nulls = &self.bytes[start..];
+            if nulls[row / 8] >> (row % 8) & 1 == 1 {
+                return Ok(None);
+            }
+            index -= ones_below(nulls, row);
+        }
+        match parts.encoding {
+            Encoding::Const => Ok(Some(parts.values[0])),
+            Encoding::Dict => {
+                let indexes = &self.bytes[parts.data..];
+                let entry = packed_index(indexes, index_width(parts.values.len()), index);
+                Ok(Some(parts.values[entry]))
+            }
+            _ => self.plain_place(kind, parts.data, index).map(Some),
+        }
+    }
+
+    /// Where plain value number `index` starts.
+    fn plain_place(&self, kind: Type, data: usize, index: usize) -> Result<usize, Refusal> {
+        if let Some(width) = fixed_width(kind) {
+            return Ok(data + index * width);
+        }
+        let mut place = data;
+        for _ in 0..index {
+            place = value_end(kind, self.bytes, place)?;
+        }
+        Ok(place)
+    }
+}
+
+pub fn check(schema: &[u8], rows: u32, bucket: &[u8]) -> Result<(), Refusal> {
+    Bucket::judge(schema, rows, bucket).map(|_| ())
+}
+
+pub fn field(
+    schema: &[u8],
+    rows: u32,
+    bucket: &[u8],
+    row: u32,
+    column: u32,
+) -> Result<Answer, Refusal> {
+    Bucket::judge(schema, rows, bucket)?.field(row, column)
+}
+
+struct Reader<'a> {
+    bytes: &'a [u8],
+    place: usize,
+}
+
+impl<'a> Reader<'a> {
+    /// A number of the header that has to be the expected one.
+    fn header_number(&mut self, expected: u32) -> Result<(), Refusal> {
+        let (value, place) = varint::read(self.bytes, self.place).map_err(|fault| match fault {
+            Fault::CutShort => 31,
+            Fault::IllFormed => 30u32,
+        })?;
+        self.place = place;
+        if value == expected {
+            Ok(())
+        } else {
+            Err(30)
+        }
+    }
+
+    /// An array of `bits` bits from the low end: 31 for the whole, 34 for spare bits.
+    fn bits(&mut self, bits: usize) -> Result<&'a [u8], Refusal> {
+        let array = self.array(bits)?;
+        no_spare_bits(array, bits)?;
+        Ok(array)
+    }
+
+    fn array(&mut self, bits: usize) -> Result<&'a [u8], Refusal> {
+        let end = self.place + bits.div_ceil(8);
+        let array = self.bytes.get(self.place..end).ok_or(31u32)?;
+        self.place = end;
+        Ok(array)
+    }
+
+    /// The encoding tags and the has-nulls bits.
+    fn encodings(&mut self, columns: &[Column], rows: usize) -> Result<Vec<Parts>, Refusal> {
+        let tags = self.bits(2 * columns.len())?;
+        let encoding = |i: usize| match tags[i / 4] >> (2 * (i % 4)) & 3 {
+            0 => Encoding::Plain,
+            1 => Encoding::Const,
+            2 => Encoding::Dict,
+            _ => Encoding::AllNull,
+        };
+        let wrong = |i: usize| !columns[i].nullable && encoding(i) == Encoding::AllNull;
+        if rows > 0 && (0..columns.len()).any(wrong) {
+            return Err(35);
+        }
+        let has_nulls = self.bits(columns.len())?;
+        let parts = |i: usize| {
+            let marked = has_nulls[i / 8] >> (i % 8) & 1 == 1;
+            let encoding = encoding(i);
+            Parts {
+                encoding,
+                nulls: (marked && encoding != Encoding::AllNull).then_some(0),
+                values: Vec::new(),
+                data: 0,
+            }
+        };
+        Ok((0..columns.len()).map(parts).collect())
+    }
+
+    fn constants_and_tables(
+        &mut self,
+        columns: &[Column],
+        parts: &mut [Parts],
+    ) -> Result<(), Refusal> {
+        for wanted in [Encoding::Const, Encoding::Dict] {
+            for (column, parts) in columns.iter().zip(parts.iter_mut()) {
+                if parts.encoding != wanted {
+                    continue;
+                }
+                let entries = if wanted == Encoding::Const { 1 } else { self.entries()? };
+                parts.values.reserve(entries as usize);
+                for _ in 0..entries {
+                    parts.values.push(self.place);
+                    self.place = value_end(column.kind, self.bytes, self.place)?;
+                }
+            }
+        }
+        Ok(())
+    }
+
+    /// The number of entries of a table.
+    fn entries(&mut self) -> Result<u32, Refusal> {
+        let (entries, place) = varint::read(self.bytes, self.place).map_err(value_refusal)?;
+        self.place = place;
+        if (2..=255).contains(&entries) {
+            Ok(entries)
+        } else {
+            Err(33)
+        }
+    }
+
+    fn null_bitmaps(
+        &mut self,
+        columns: &[Column],
+        rows: usize,
+        parts: &mut [Parts],
+    ) -> Result<(), Refusal> {
+        for (column, parts) in columns.iter().zip(parts) {
+            if let Some(start) = &mut parts.nulls {
+                *start = self.place;
+                let bitmap = self.bits(rows)?;
+                if !column.nullable && bitmap.iter().any(|&byte| byte != 0) {
+                    return Err(35);
+                }
+            }
+        }
+        Ok(())
+    }
+
+    /// The plain values or the indexes of one column.
+    fn data(&mut self, kind: Type, rows: usize, parts: &mut Parts) -> Result<(), Refusal> {
+        parts.data = self.place;
+        let nulls = parts.nulls.map_or(0, |start| ones_below(&self.bytes[start..], rows));
+        let values = rows - nulls;
+        match parts.encoding {
+            Encoding::Plain => self.plain_values(kind, values),
+            Encoding::Dict => self.indexes(parts.values.len(), values),
+            Encoding::Const | Encoding::AllNull => Ok(()),
+        }
+    }
+
+    fn plain_values(&mut self, kind: Type, values: usize) -> Result<(), Refusal> {
+        if let (Some(width), true) = (fixed_width(kind), takes_any_bytes(kind)) {
+            self.array(8 * width * values)?;
+            return Ok(());
+        }
+        for _ in 0..values {
+            self.place = value_end(kind, self.bytes, self.place)?;
+        }
+        Ok(())
+    }
+
+    fn indexes(&mut self, entries: usize, values: usize) -> Result<(), Refusal> {
+        let width = index_width(entries);
+        let array = self.array(width * values)?;
+        if entries < 1 << width && (0..values).any(|i| packed_index(array, width, i) >= entries) {
+            return Err(33);
+        }
+        no_spare_bits(array, width * values)
+    }
+}
+
+fn no_spare_bits(array: &[u8], bits: usize) -> Result<(), Refusal> {
+    if !bits.is_multiple_of(8) && array[bits / 8] >> (bits % 8) != 0 {
+        return Err(34);
+    }
+    Ok(())
+}
+
+/// How many of the first `count` bits, from the low end, are set.
+fn ones_below(bits: &[u8], count: usize) -> usize {
+    let (whole, part) = (count / 8, count % 8);
+    let words = bits[..whole].chunks_exact(8);
+    let tail: u32 = words.remainder().iter().map(|byte| byte.count_ones()).sum();
+    let ones: u32 =
+        words.map(|word| u64::from_ne_bytes(word.try_into().unwrap()).count_ones()).sum();
+    let last = if part == 0 { 0 } else { (bits[whole] & ((1 << part) - 1)).count_ones() };
+    (ones + tail + last) as usize
+}
+
+/// ceil(log2(entries)), for 2 to 255 entries.
+fn index_width(entries: usize) -> usize {
+    (usize::BITS - (entries - 1).leading_zeros()) as usize
+}
+
+/// Index number `i`, low bits first.
+fn packed_index(array: &[u8], width: usize, i: usize) -> usize {
+    let place = i * width;
+    let low = usize::from(array[place / 8]) >> (place % 8);
+    let high = if place % 8 + width > 8 {
+        usize::from(array[place / 8 + 1]) << (8 - place % 8)
+    } else {
+        0
+    };
+    (low | high) & ((1 << width) - 1)
+}
+
+/// The width of a value that is stored in a fixed number of bytes.
+fn fixed_width(kind: Type) -> Option<usize> {
+    match kind {
+        Type::Boolean | Type::TinyInt => Some(1),
+        Type::SmallInt => Some(2),
+        Type::Integer | Type::Float | Type::Date | Type::Time { .. } => Some(4),
+        Type::BigInt | Type::Double => Some(8),
+        Type::Decimal { precision: 0..=18, .. } => Some(8),
+        Type::Timestamp { precision: 0..=6 } => Some(8),
+        Type::Timestamp { .. } => Some(12),
+        _ => None,
+    }
+}
+
+fn takes_any_bytes(kind: Type) -> bool {
+    !matches!(kind, Type::Boolean | Type::Timestamp { precision: 7.. })
+}
+
+fn value_refusal(fault: Fault) -> Refusal {
+    match fault {
+        Fault::CutShort => 31,
+        Fault::IllFormed => 32,
+    }
+}
+
+/// Where the value at the place ends: 31 if bytes are missing, then 32 if it is bad.
+fn value_end(kind: Type, bytes: &[u8], place: usize) -> Result<usize, Refusal> {
+    let Some(width) = fixed_width(kind) else {
+        let (start, length) = counted(kind, bytes, place)?;
+        return Ok(start + length);
+    };
+    let end = place + width;
+    let value = bytes.get(place..end).ok_or(31u32)?;
+    let bad = match kind {
+        Type::Boolean => value[0] > 1,
+        Type::Timestamp { precision: 7.. } => nanoseconds(value) > 999_999,
+        _ => false,
+    };
+    if bad {
+        Err(32)
+    } else {
+        Ok(end)
+    }
+}
+
+fn nanoseconds(value: &[u8]) -> u32 {
+    u32::from_be_bytes(value[8..12].try_into().unwrap())
+}
+
+/// Start and length of text, bytes or a large DECIMAL, whose length lies at the place.
+fn counted(kind: Type, bytes: &[u8], place: usize) -> Result<(usize, usize), Refusal> {
+    let (length, start) = varint::read(bytes, place).map_err(value_refusal)?;
+    if length as usize > bytes.len() - start {
+        return Err(31);
+    }
+    if length == 0 && matches!(kind, Type::Decimal { .. }) {
+        return Err(32);
+    }
+    Ok((start, length as usize))
+}
+
+/// The answer of the value at the place, and where the value ends.
+fn read_value(kind: Type, bytes: &[u8], place: usize) -> Result<(Answer, usize), Refusal> {
+    let end = value_end(kind, bytes, place)?;
+    let value = &bytes[place..end];
+    let answer = match kind {
+        Type::Boolean => Answer::YesNo(value[0] == 1),
+        Type::TinyInt | Type::SmallInt | Type::Integer | Type::Date | Type::Time { .. } => {
+            Answer::Whole(signed(value))
+        }
+        Type::BigInt | Type::Decimal { precision: 0..=18, .. } => Answer::Whole(signed(value)),
+        Type::Float => Answer::Float(signed(value) as u32),
+        Type::Double => Answer::Double(signed(value) as u64),
+        Type::Timestamp { precision } => Answer::Time {
+            count: signed(&value[..8]),
+            nanos: if precision > 6 { nanoseconds(value) } else { 0 },
+        },
+        _ => {
+            let (start, length) = counted(kind, bytes, place)?;
+            Answer::Place { start, length }
+        }
+    };
+    Ok((answer, end))
+}
+
+/// A signed number, big endian, of 1 to 8 bytes.
+fn signed(value: &[u8]) -> i64 {
+    let first = if value[0] >= 0x80 { -1 } else { 0 };
+    value.iter().fold(first, |number, &byte| number << 8 | i64::from(byte))
+}
+
+#[cfg(test)]
+mod tests {
+    use super::*;
+
+    #[test]
+    fn the_example_of_document_01() {
+        let schema = [1, 1, 0];
+        let bucket = [1, 0, 2, 0, 2, 1, 2, 2];
+        let answers: Vec<Answer> =
+            (0..3).map(|row| field(&schema, 3, &bucket, row, 0).unwrap()).collect();
+        assert_eq!(answers, [Answer::Whole(1), Answer::Whole(2), Answer::Whole(1)]);
+        assert_eq!(field(&schema, 3, &bucket, 3, 0), Err(25));
+        assert_eq!(field(&schema, 3, &bucket, 0, 1), Err(25));
+    }
+
+    #[test]
+    fn encodings_with_nulls() {
+        // PLAIN VARCHAR, CONST SMALLINT, ALL_NULL DOUBLE, DICT TIMESTAMP(9); three rows.
+        let schema = [4, 9, 1, 5, 2, 1, 6, 1, 16, 1, 9];
+        let mut bucket = vec![4, 0, 0b10_11_01_00, 0b0011, 0xFF, 0xFE, 2];
+        bucket.extend([0, 0, 0, 0, 0, 0, 0, 7, 0, 0, 0, 1]);
+        bucket.extend([0xFF; 8]);
+        bucket.extend([0, 0x0F, 0x42, 0x3F]);
+        bucket.extend([0b010, 0b001]);
+        bucket.extend([1, b'x', 0]);
+        bucket.push(0b101);
+        let ask = |row, column| field(&schema, 3, &bucket, row, column).unwrap();
+        assert_eq!(ask(0, 0), Answer::Place { start: 34, length: 1 });
+        assert_eq!(ask(1, 0), Answer::Null);
+        assert_eq!(ask(2, 0), Answer::Place { start: 36, length: 0 });
+        assert_eq!(ask(0, 1), Answer::Null);
+        assert_eq!(ask(1, 1), Answer::Whole(-2));
+        assert_eq!(ask(1, 2), Answer::Null);
+        assert_eq!(ask(0, 3), Answer::Time { count: -1, nanos: 999_999 });
+        assert_eq!(ask(1, 3), Answer::Time { count: 7, nanos: 1 });
+    }
+
+    #[test]
+    fn every_refusal_in_its_order() {
+        let tiny: &[u8] = &[1, 1, 0];
+        let table: [(&[u8], u32, &[u8], u32); 29] = [
+            (&[1, 1, 2], 70_000, &[], 20),
+            (tiny, 65_537, &[], 37),
+            (tiny, 0, &[], 31),
+            (tiny, 0, &[0x81], 31),
+            (tiny, 0, &[0x81, 0], 30),
+            (tiny, 0, &[2], 30),
+            (tiny, 0, &[1], 31),
+            (tiny, 0, &[1, 1], 30),
+            (tiny, 0, &[1, 0], 31),
+            (tiny, 1, &[1, 0, 0b0111], 34),
+            (tiny, 1, &[1, 0, 0b0011], 35),
+            (tiny, 0, &[1, 0, 0b0011], 31),
+            (tiny, 0, &[1, 0, 0, 2], 34),
+            (tiny, 0, &[1, 0, 1, 0], 31),
+            (&[1, 0, 0], 0, &[1, 0, 1, 0, 2], 32),
+            (tiny, 0, &[1, 0, 2, 0], 31),
+            (tiny, 0, &[1, 0, 2, 0, 0x82, 0], 32),
+            (tiny, 0, &[1, 0, 2, 0, 1], 33),
+            (tiny, 0, &[1, 0, 2, 0, 0x80, 2], 33),
+            (tiny, 0, &[1, 0, 2, 0, 2, 5], 31),
+            (tiny, 1, &[1, 0, 0, 1], 31),
+            (tiny, 1, &[1, 0, 0, 1, 2], 34),
+            (tiny, 1, &[1, 0, 0, 1, 1], 35),
+            (tiny, 2, &[1, 0, 0, 0, 5], 31),
+            (&[1, 0, 0], 2, &[1, 0, 0, 0, 2], 32),
+            (tiny, 2, &[1, 0, 2, 0, 3, 1, 2, 3, 0b1_1111], 33),
+            (tiny, 2, &[1, 0, 2, 0, 3, 1, 2, 3, 0b1_0101], 34),
+            (&[1, 14, 0, 19, 0], 1, &[1, 0, 0, 0, 0], 32),
+            (tiny, 1, &[1, 0, 0, 0, 5, 6], 36),
+        ];
+        for (schema, rows, bucket, refusal) in table {
+            assert_eq!(check(schema, rows, bucket), Err(refusal), "{bucket:?}");
+        }
+        assert_eq!(check(tiny, 0, &vec![0; MAX_BYTES + 1]), Err(37));
+        assert_eq!(check(tiny, 0, &[1, 0, 3, 1]), Ok(()));
+        assert_eq!(field(tiny, 0, &[1, 0, 3, 1], 0, 0), Err(25));
+    }
+}

@@ -1,0 +1,58 @@
+//! The files of samples/ hold what samples/README.md says.
+
+use super::bitmap::Bitmap;
+use super::{buckets, rows, Answer};
+use std::fs;
+use std::path::Path;
+
+fn sample(name: &str) -> Vec<u8> {
+    let package = Path::new(env!("CARGO_MANIFEST_DIR"));
+    fs::read(package.join("../samples").join(name)).unwrap()
+}
+
+fn time(count: i64) -> Answer {
+    Answer::Time { count, nanos: 0 }
+}
+
+fn float(value: f32) -> Answer {
+    Answer::Float(value.to_bits())
+}
+
+#[test]
+fn bitmaps() {
+    let members = |name| Bitmap::judge(&sample(name)).unwrap().members();
+    assert_eq!(members("zone.bitmap"), [0, 34, 255]);
+    assert_eq!(members("dense.bitmap"), (0..32).collect::<Vec<_>>());
+    assert_eq!(members("last.bitmap"), [2_097_151]);
+    let sizes = ["zone.bitmap", "dense.bitmap", "last.bitmap"].map(|name| sample(name).len());
+    assert_eq!(sizes, [12, 41, 105]);
+}
+
+#[test]
+fn block() {
+    let (schema, block) = (sample("readings.schema"), sample("readings.block"));
+    let row = |row| [0, 1, 2].map(|column| rows::field(&schema, &block, row, column).unwrap());
+    assert_eq!(row(0), [time(1_794_700_000_000), Answer::Whole(1250), float(0.5)]);
+    assert_eq!(row(1), [time(1_794_700_001_000), Answer::Null, float(-1.0)]);
+    assert_eq!(row(2), [time(1_794_700_002_000), Answer::Whole(-3), float(2.25)]);
+    let text = |row| match rows::field(&schema, &block, row, 3).unwrap() {
+        Answer::Place { start, length } => Some(block[start..start + length].to_vec()),
+        _ => None,
+    };
+    assert_eq!([0, 1, 2].map(text), [Some(b"north".to_vec()), None, Some(Vec::new())]);
+}
+
+#[test]
+fn bucket() {
+    let (schema, bucket) = (sample("readings.schema"), sample("readings.bucket"));
+    let ask = |row, column| buckets::field(&schema, 3, &bucket, row, column).unwrap();
+    let row = |row| [0, 1, 2].map(|column| ask(row, column));
+    assert_eq!(row(0), [time(1_794_700_000_000), Answer::Whole(1250), float(0.5)]);
+    assert_eq!(row(1), [time(1_794_700_001_000), Answer::Null, float(-1.0)]);
+    assert_eq!(row(2), [time(1_794_700_002_000), Answer::Whole(-3), float(0.5)]);
+    let text = |row| match ask(row, 3) {
+        Answer::Place { start, length } => Some(bucket[start..start + length].to_vec()),
+        _ => None,
+    };
+    assert_eq!([0, 1, 2].map(text), [Some(b"north".to_vec()), None, None]);
+}
