@@ -2,7 +2,7 @@
 
 use super::{any_index, edge_number, hex, same, Tally};
 use crate::ffi::{rows, Field, Lent};
-use crate::generate::{rows as generate, Random};
+use crate::generate::{rows as generate, schema as generate_schema, Random};
 use crate::reference::rows::Block;
 use crate::reference::schema;
 
@@ -15,6 +15,8 @@ pub fn run_case(case: u64, random: &mut Random, tally: &mut Tally) -> Result<(),
     let schema = Lent::input("schema", &case.schema, random);
     let block = Lent::input("block", &case.block, random);
     compare_schema(&schema, random)?;
+    let other = damaged_schema(random);
+    compare_schema(&Lent::input("schema", &other, random), random)?;
 
     let judged = Block::judge(&case.schema, &case.block);
     let rows = judged.as_ref().map(|block| block.rows() as u32).map_err(|&refusal| refusal);
@@ -37,6 +39,12 @@ pub fn run_case(case: u64, random: &mut Random, tally: &mut Tally) -> Result<(),
         same(question, rows::block_field(&schema, &block, row, column, random), expected)?;
     }
     Ok(())
+}
+
+/// A schema alone: it is damaged far more often than one that comes with a block.
+fn damaged_schema(random: &mut Random) -> Vec<u8> {
+    let columns = generate_schema::columns(random);
+    generate_schema::damaged_schema(random, &columns)
 }
 
 fn compare_schema(lent: &Lent<u8>, random: &mut Random) -> Result<(), String> {

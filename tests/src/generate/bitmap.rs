@@ -478,7 +478,7 @@ fn raise_descriptor(random: &mut Random, draft: &mut Draft) {
         values.iter_mut().for_each(|value| *value += more as u32);
     } else {
         let at = usize::from(at) % values.len();
-        values[at] += 64 + more as u32 % 64;
+        values[at] = if more.is_multiple_of(2) { 64 } else { 63 + more as u32 };
     }
     (chunk.b1, chunk.b2, chunk.e, chunk.m) = (8, 0, 0, start as u8);
     chunk.primary = pack_high_first(&values, 8);

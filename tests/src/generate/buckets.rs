@@ -1,8 +1,8 @@
 //! Buckets over random schemas, row counts and encodings, sound and damaged towards each refusal.
 
 use super::schema::{
-    bad_counted, bad_nanoseconds, bad_varint, bits_width, columns, damaged_schema, push_counted,
-    push_varint, schema_bytes, value, Value,
+    bad_boolean, bad_counted, bad_nanoseconds, bad_varint, bits_width, columns, damaged_schema,
+    push_counted, push_varint, schema_bytes, value, Value,
 };
 use super::{damage_bytes, Random};
 use crate::reference::schema::{Column, Type};
@@ -265,7 +265,10 @@ pub fn damaged(random: &mut Random) -> Case {
     let mut bucket = draft.bytes();
     for damage in after {
         match damage {
-            After::Cut => bucket.truncate(random.below(bucket.len() + 1)),
+            After::Cut => {
+                let most = if random.once_in(3) { 8.min(bucket.len()) } else { bucket.len() };
+                bucket.truncate(random.below(most + 1));
+            }
             After::TooLong => bucket = vec![0; 16_777_217],
             After::Bytes => damage_bytes(random, &mut bucket),
         }
@@ -319,7 +322,7 @@ fn break_value(random: &mut Random, draft: &mut Draft) {
 /// The bytes of a value that is bad in a bucket, if its type has such.
 fn bad_value(random: &mut Random, kind: Type) -> Option<Vec<u8>> {
     match kind {
-        Type::Boolean => Some(vec![random.between(2, 255) as u8]),
+        Type::Boolean => Some(vec![bad_boolean(random)]),
         Type::Timestamp { precision: 7.. } => {
             let mut out = random.bytes(8);
             out.extend(bad_nanoseconds(random).to_be_bytes());

@@ -1,8 +1,8 @@
 //! Row blocks over random schemas, sound and damaged towards each refusal.
 
 use super::schema::{
-    bad_counted, bad_nanoseconds, bad_varint, bits_width, columns, damaged_schema, push_counted,
-    push_varint, schema_bytes, value, Value,
+    bad_boolean, bad_counted, bad_nanoseconds, bad_varint, bits_width, columns, damaged_schema,
+    push_counted, push_varint, schema_bytes, value, Value,
 };
 use super::{damage_bytes, Random};
 use crate::reference::schema::{Column, Type};
@@ -241,7 +241,7 @@ fn break_row(random: &mut Random, draft: &mut Draft) {
 /// The bytes of a field that is bad in a row, if its type has such.
 fn bad_field(random: &mut Random, kind: Type) -> Option<Vec<u8>> {
     match kind {
-        Type::Boolean => Some(vec![random.between(2, 255) as u8]),
+        Type::Boolean => Some(vec![bad_boolean(random)]),
         Type::Timestamp { precision: 4.. } => {
             let mut out = random.bytes(8);
             if random.once_in(2) {

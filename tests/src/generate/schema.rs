@@ -23,7 +23,10 @@ pub fn bad_varint(random: &mut Random, value: u32) -> Vec<u8> {
             out.extend(vec![0x80; padding]);
             out.push(0);
         }
-        2 => out = vec![0xFF, 0xFF, 0xFF, 0xFF, random.between(0x10, 0xFF) as u8],
+        2 => {
+            let fifth = random.pick(&[0x10, 0x1F, 0x70, 0x7F, 0x80, 0xFF]);
+            out = vec![random.pick(&[0x80, 0x83, 0xFF]), 0x80, 0x80, 0x80, fifth];
+        }
         3 => out = vec![0x80, 0x80, 0x80, 0x80, 0x80, 0x01],
         _ => *out.last_mut().unwrap() |= 0x80,
     }
@@ -102,17 +105,22 @@ pub fn damaged_schema(random: &mut Random, columns: &[Column]) -> Vec<u8> {
     let mut count = Vec::new();
     push_varint(columns.len() as u32, &mut count);
     let at = random.below(parts.len());
-    match random.below(9) {
+    match random.below(10) {
         0 => count = bad_varint(random, columns.len() as u32),
         1 => {
             count.clear();
             push_varint(random.pick(&[0, 65, 128, u32::MAX]), &mut count);
         }
-        2 => parts[at][0] = random.between(17, 255) as u8,
-        3 => parts[at][1] = random.between(2, 255) as u8,
-        4 => parts[at] = bad_parameters(random),
-        5 => parts.push(random.bytes(1)),
-        6 => {
+        2 => return random.pick(&[&[0][..], &[]]).to_vec(),
+        3 => {
+            parts = vec![parts[at].clone(); 65];
+            count = vec![65];
+        }
+        4 => parts[at][0] = random.pick(&[17, 18, 19, 128, 255]),
+        5 => parts[at][1] = random.pick(&[2, 3, 128, 255]),
+        6 => parts[at] = bad_parameters(random),
+        7 => parts.push(random.bytes(1)),
+        8 => {
             parts[at].pop();
         }
         _ => {
@@ -130,16 +138,19 @@ fn bad_parameters(random: &mut Random) -> Vec<u8> {
     let id = random.pick(&[8, 9, 11, 12, 14, 15, 16]);
     let mut out = vec![id, 1];
     match id {
-        14 if random.once_in(3) => out.extend(random.pick(&[[0, 0], [39, 0], [5, 6], [38, 39]])),
-        14 if random.once_in(2) => {
-            out.push(5);
-            out.extend(bad_varint(random, 5));
-        }
-        15 | 16 if random.once_in(2) => out.push(random.between(10, 127) as u8),
+        14 => match random.below(3) {
+            0 => out.extend(random.pick(&[[0, 0], [39, 0], [39, 39], [5, 6], [18, 19], [38, 39]])),
+            1 => {
+                out.push(5);
+                out.extend(bad_varint(random, 5));
+            }
+            _ => {
+                out.extend(bad_varint(random, 20));
+                out.push(0);
+            }
+        },
+        15 | 16 if random.once_in(2) => out.push(random.pick(&[10, 11, 127])),
         _ => out.extend(bad_varint(random, 3)),
-    }
-    if id == 14 {
-        out.push(0);
     }
     out
 }
@@ -224,6 +235,11 @@ fn nanoseconds(random: &mut Random) -> u32 {
         0 => random.pick(&[0, 1, 127, 128, 16_383, 16_384, 999_999]),
         _ => random.below(1_000_000) as u32,
     }
+}
+
+/// A byte that is no BOOLEAN.
+pub fn bad_boolean(random: &mut Random) -> u8 {
+    random.pick(&[2, 3, 128, 255])
 }
 
 /// Nanoseconds that are too many.
