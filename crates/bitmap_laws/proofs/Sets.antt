@@ -15,7 +15,7 @@ use Rattle.bitmap_spec.specs.declared.Operation.the-variants.{Union, Intersecti
 use Rattle.bitmap_spec.proofs.Window.{below-or}
 use Rattle.bitmap_laws.proofs.Members.{rising-keep, mem-keep, mem-high, mem-beyond}
 
-neither : (o : Operation) → holds o false false ≡ false
+pub neither : (o : Operation) → holds o false false ≡ false
 neither Union = refl
 neither Intersection = refl
 neither Difference = refl
