@@ -1,0 +1,73 @@
+// Combining two bitmaps: union, intersection, difference and symmetric difference, each written in the one form.
+// The first bitmap is judged wholly before the second (refusals 1 to 11), then room (13). A refusal leaves the output as it was.
+ghost use mathlib.Core.Path.{_≡_};
+ghost use lib.ListN.{length};
+ghost use Rattle.common.specs.Outcome.{then};
+ghost use Rattle.bitmap_spec.specs.Judge.{judge};
+ghost use Rattle.bitmap_spec.specs.Form.{form};
+ghost use Rattle.bitmap_spec.specs.Sets as sets;
+ghost use Rattle.bitmap_spec.specs.Output.{placed, called, Gives};
+ghost use Rattle.judge.specs.Post.{View, viewed};
+use bitmap_spec::Operation;
+use bitmap_spec::Written;
+use judge::Judged;
+use pair_write::Side;
+
+// The second bitmap's turn, after the first was accepted.
+fn second(o: Operation, a: &[u8], da: &[u8; 8192], x: Side, b: &[u8], out: &mut [u8]) -> Written
+    requires { ⌜ View (now a) (now da) (x .count) (x .start) (viewed (now a) (now da) (x .count) (x .start)) ⌝ }
+    ensures { λ r. ⌜ Gives (then (judge (now (b .entry))) (λ m. placed (form (sets.combine o (viewed (now (a .entry)) (now (da .entry)) (x .count) (x .start)) m)) (length (now (out .entry))))) (now (out .entry)) (now (out .exit)) r ⌝ }
+{
+    let mut db = [0u8; 8192];
+    match judge::judge_into(b, &mut db) {
+        Judged::Refused(r) => Written::Refused(r),
+        Judged::Accepted {
+            count,
+            start,
+            cardinality: _,
+        } => pair_write::put_combined(o, a, da, x, b, &db, Side { count, start }, out),
+    }
+}
+
+// Writes the form of two bitmaps combined. The four calls differ in the operation alone.
+fn combine(o: Operation, a: &[u8], b: &[u8], out: &mut [u8]) -> Written
+    ensures { λ r. ⌜ Gives (called o (now (a .entry)) (now (b .entry)) (length (now (out .entry)))) (now (out .entry)) (now (out .exit)) r ⌝ }
+{
+    let mut da = [0u8; 8192];
+    match judge::judge_into(a, &mut da) {
+        Judged::Refused(r) => Written::Refused(r),
+        Judged::Accepted {
+            count,
+            start,
+            cardinality: _,
+        } => second(o, a, &da, Side { count, start }, b, out),
+    }
+}
+
+// Writes the positions that are in at least one of the two bitmaps.
+pub fn union(a: &[u8], b: &[u8], out: &mut [u8]) -> Written
+    ensures { λ r. ⌜ Gives (called Operation.Union (now (a .entry)) (now (b .entry)) (length (now (out .entry)))) (now (out .entry)) (now (out .exit)) r ⌝ }
+{
+    combine(Operation::Union, a, b, out)
+}
+
+// Writes the positions that are in both bitmaps.
+pub fn intersection(a: &[u8], b: &[u8], out: &mut [u8]) -> Written
+    ensures { λ r. ⌜ Gives (called Operation.Intersection (now (a .entry)) (now (b .entry)) (length (now (out .entry)))) (now (out .entry)) (now (out .exit)) r ⌝ }
+{
+    combine(Operation::Intersection, a, b, out)
+}
+
+// Writes the positions that are in the first bitmap alone.
+pub fn difference(a: &[u8], b: &[u8], out: &mut [u8]) -> Written
+    ensures { λ r. ⌜ Gives (called Operation.Difference (now (a .entry)) (now (b .entry)) (length (now (out .entry)))) (now (out .entry)) (now (out .exit)) r ⌝ }
+{
+    combine(Operation::Difference, a, b, out)
+}
+
+// Writes the positions that are in exactly one of the two bitmaps: 01's either-but-not-both.
+pub fn symmetric_difference(a: &[u8], b: &[u8], out: &mut [u8]) -> Written
+    ensures { λ r. ⌜ Gives (called Operation.SymmetricDifference (now (a .entry)) (now (b .entry)) (length (now (out .entry)))) (now (out .entry)) (now (out .exit)) r ⌝ }
+{
+    combine(Operation::SymmetricDifference, a, b, out)
+}
