@@ -1,0 +1,5 @@
+pub mod Decoding
+pub mod Skipping
+pub mod Paging
+pub mod Marks
+pub mod Answers
