@@ -1,9 +1,13 @@
-// Runs the reading calls over bitmaps that 01's rules single out, each refusal among them, and prints their answers.
+// Runs the reading calls over the bitmaps of standard input, a line of hexadecimal digits for each, and prints their answers.
+// The file stdin has those that 01's rules single out, each refusal among them; stdout was made by another program from 01 alone.
+ghost use Prim.Native.Nat.{_≤_, _<_};
+ghost use lib.ListN.{length};
 use bitmap_list::Paged;
 use bitmap_read::Checked;
 use bitmap_read::Probed;
 use bitmap_read::Ranked;
 use bitmap_spec::Listing;
+use libc::STDIN_FILENO;
 use libc::STDOUT_FILENO;
 
 fn print(n: u32) {
@@ -74,13 +78,13 @@ fn print_page(s: &[u8], at: Listing) -> Listing {
     }
 }
 
-// All pages, up to 8.
+// All pages, up to 200.
 fn print_pages(s: &[u8]) {
     let mut at = Listing {
         place: 0,
         finished: false,
     };
-    let mut pages: usize = 8;
+    let mut pages: usize = 200;
     while 0 < pages {
         at = print_page(s, at);
         if at.finished {
@@ -109,81 +113,70 @@ fn show(s: &[u8]) {
     }
 }
 
-// A bitmap for each refusal, in 01's order.
-fn refused() {
-    // 1: under 6 bytes
-    show(b"\x01\x00\x00\x00\x00");
-    // 2: version not 1
-    show(b"\x02\x00\x00\x00\x00\x00");
-    // 3: 8,193 containers
-    show(b"\x01\x00\x00\x00\x01\x20");
-    // 4: the three bytes of a chunk cut short
-    show(b"\x01\x00\x00\x00\x01\x00\x00\x00");
-    // 4: arrays cut short; 6 and 8 would come later
-    show(b"\x01\x00\x00\x00\x02\x00\x11\x02\x3f\x80\x01\x01");
-    // 5: b1 over 8
-    show(b"\x01\x00\x00\x00\x01\x00\x09\x00\x00");
-    // 5: b1 8 with an exception, before its arrays
-    show(b"\x01\x00\x00\x00\x01\x00\x08\x01\x00");
-    // 6: an offset not below n
-    show(b"\x01\x01\x00\x00\x02\x00\x10\x01\x00\x02\x80\x00");
-    // 6: offsets not rising, before 7
-    show(b"\x01\x01\x00\x00\x02\x00\x10\x02\x00\x01\x01\xff\x00");
-    // 7: spare bits after the primary values
-    show(b"\x01\x00\x00\x00\x01\x00\x01\x00\x00\x40");
-    // 7: spare bits after the parts
-    show(b"\x01\x01\x00\x00\x02\x00\x10\x01\x00\x01\xc0\x00");
-    // 8: descriptor 64
-    show(b"\x01\x00\x00\x00\x01\x00\x00\x00\x40");
-    // 8: a plain sum of 256 is no 0
-    show(b"\x01\x00\x00\x00\x01\x00\x01\x00\xff\x80");
-    // 9: a byte too many, also with no container
-    show(b"\x01\x00\x00\x00\x00\x00\x00");
-    // 9: a byte too few, before 10 and 11
-    show(b"\x01\x05\x00\x00\x01\x00\x00\x00\x03\x02\x01");
-    // 10: sparse not rising, before 11
-    show(b"\x01\x05\x00\x00\x01\x00\x00\x00\x02\x07\x07");
-    // 10: dense with 31 members
-    show(
-        b"\x01\x1f\x00\x00\x01\x00\x00\x00\x20\xff\xff\xff\xfe\x00\x00\x00\x00\x00\x00\x00\x00\x00\x00\x00\x00\x00\x00\x00\x00\x00\x00\x00\x00\x00\x00\x00\x00\x00\x00\x00\x00",
-    );
-    // 11: cardinality wrong
-    show(b"\x01\x02\x00\x00\x01\x00\x00\x00\x01\x00");
+// The value of a hexadecimal digit.
+fn digit(c: u8) -> u8
+    ensures { λ r. ⌜ r < 16 ⌝ }
+{
+    if c < 58 { c % 16 } else { (c % 16 + 9) % 16 }
 }
 
-// Accepted bitmaps.
-fn accepted() {
-    // the empty set
-    show(b"\x01\x00\x00\x00\x00\x00");
-    // {0, 34, 255}
-    show(b"\x01\x03\x00\x00\x01\x00\x00\x00\x03\x00\x22\xff");
-    // {256}, with an exception
-    show(b"\x01\x01\x00\x00\x02\x00\x10\x01\x00\x01\x80\x00");
-    // {0}, not canonical: an empty container at the end, and a part
-    show(b"\x01\x01\x00\x00\x02\x00\x10\x01\x00\x00\x80\x00");
-    // {0}, not canonical: b2 without exceptions
-    show(b"\x01\x01\x00\x00\x01\x00\x80\x00\x01\x00");
-    // 0 to 30: 31 members, sparse
-    show(
-        b"\x01\x1f\x00\x00\x01\x00\x00\x00\x1f\x00\x01\x02\x03\x04\x05\x06\x07\x08\x09\x0a\x0b\x0c\x0d\x0e\x0f\x10\x11\x12\x13\x14\x15\x16\x17\x18\x19\x1a\x1b\x1c\x1d\x1e",
-    );
-    // 0 to 31: 32 members, dense
-    show(
-        b"\x01\x20\x00\x00\x01\x00\x00\x00\x20\xff\xff\xff\xff\x00\x00\x00\x00\x00\x00\x00\x00\x00\x00\x00\x00\x00\x00\x00\x00\x00\x00\x00\x00\x00\x00\x00\x00\x00\x00\x00\x00",
-    );
-    // dense, descriptor 63: its low bits are ignored, and bit 0 is the highest
-    show(
-        b"\x01\x20\x00\x00\x01\x00\x00\x00\x3f\x00\x00\x00\x00\x00\x00\x00\x00\x00\x00\x00\x00\x00\x00\x00\x00\x00\x00\x00\x00\x00\x00\x00\x00\x00\x00\x00\x00\xff\xff\xff\xff",
-    );
-    // two chunks: {65541}
-    show(b"\x01\x01\x00\x00\x01\x01\x00\x00\x00\x00\x00\x01\x05");
-    // the last position: {2097151}
-    show(
-        b"\x01\x01\x00\x00\x00\x20\x00\x00\x00\x00\x00\x00\x00\x00\x00\x00\x00\x00\x00\x00\x00\x00\x00\x00\x00\x00\x00\x00\x00\x00\x00\x00\x00\x00\x00\x00\x00\x00\x00\x00\x00\x00\x00\x00\x00\x00\x00\x00\x00\x00\x00\x00\x00\x00\x00\x00\x00\x00\x00\x00\x00\x00\x00\x00\x00\x00\x00\x00\x00\x00\x00\x00\x00\x00\x00\x00\x00\x00\x00\x00\x00\x00\x00\x00\x00\x00\x00\x00\x00\x00\x00\x00\x00\x00\x00\x00\x00\x00\x00\x10\x01\x00\xff\x80\xff",
-    );
+// Puts the bytes that the line's pairs of digits stand for at the start of out, as many as it takes, and says how many.
+fn decode(line: &[u8], out: &mut [u8]) -> usize
+    ensures { λ r. ⌜ r ≤ length (now (out .exit)) ⌝ }
+{
+    let pairs = line.len() / 2;
+    let mut n: usize = 0;
+    while n < pairs {
+        if out.len() <= n {
+            return n;
+        }
+        out[n] = digit(line[n * 2]) * 16 + digit(line[n * 2 + 1]);
+        n += 1;
+    }
+    n
+}
+
+// A line that starts with # is printed; any other is a bitmap in hexadecimal digits.
+fn show_line(line: &[u8]) {
+    if line.len() == 0 {
+        return;
+    }
+    if line[0] == b'#' {
+        io::write_all(STDOUT_FILENO, line);
+        end_line();
+        return;
+    }
+    let mut bytes = [0u8; 1024];
+    let n = decode(line, &mut bytes);
+    show(&bytes[..n]);
+}
+
+// Where the line that starts at `from` ends.
+fn line_end(text: &[u8], from: usize) -> usize
+    requires { ⌜ from < length (now text) ⌝ }
+    ensures { λ r. ⌜ (from ≤ r) × (r ≤ length (now (text .entry))) ⌝ }
+{
+    let mut i = from;
+    while i < text.len() {
+        if text[i] == b'\n' {
+            return i;
+        }
+        i += 1;
+    }
+    i
+}
+
+fn show_lines(text: &[u8]) {
+    let mut at: usize = 0;
+    while at < text.len() {
+        let end = line_end(text, at);
+        show_line(&text[at..end]);
+        at = end + 1;
+    }
 }
 
 fn main() {
-    refused();
-    accepted();
+    let mut text = io::large_buffer();
+    let n = io::read_full(STDIN_FILENO, &mut text);
+    show_lines(&text[..n]);
 }
