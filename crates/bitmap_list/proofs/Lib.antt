@@ -3,3 +3,4 @@ pub mod Skipping
 pub mod Paging
 pub mod Marks
 pub mod Answers
+pub mod Laws

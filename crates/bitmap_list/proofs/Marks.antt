@@ -16,7 +16,7 @@ use Rattle.bitmap_laws.proofs.Members.{head-ok}
 use Rattle.bitmap_laws.proofs.Rise.{cons-ok, weaker}
 
 -- all of a rising list lies at or above where it starts
-above-all : (n lo : ℕ) (l : List ℕ) (p : ℕ) → rising n lo l ≡ true → p ≤ lo → atOrAbove p l ≡ l
+pub above-all : (n lo : ℕ) (l : List ℕ) (p : ℕ) → rising n lo l ≡ true → p ≤ lo → atOrAbove p l ≡ l
 unfolding atOrAbove keep
 above-all n lo [] p e h = refl
 above-all n lo (x ∷ l) p e h =
