@@ -1,0 +1,2 @@
+// The C interface. Every call returns 0 and sets its outputs, or returns the refusal's number and leaves every output untouched.
+mod bitmap_reading;
