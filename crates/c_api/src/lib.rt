@@ -1,0 +1,2 @@
+// The C interface (include/barcovento.h): each call returns 0 and sets its outputs, or returns the refusal and leaves them untouched.
+mod row_calls;
