@@ -73,11 +73,11 @@ fn double_at(big: bool, s: &[u8], at: usize) -> Value
     Value::CutShort
 }
 
-// The place of len bytes that start at `start`.
-fn place(start: usize, len: usize) -> Field
-    ensures { λ r. ⌜ r ≡ Field.Place start len ⌝ }
+// The place of len bytes that start at `at`.
+fn place(at: usize, len: usize) -> Field
+    ensures { λ r. ⌜ r ≡ Field.Place at len ⌝ }
 {
-    Field::Place { start, len }
+    Field::Place { start: at, len }
 }
 
 // Bytes whose length was read as r, at least so many.
