@@ -1,1 +1,2 @@
 mod Pages
+pub mod Bools

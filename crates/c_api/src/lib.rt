@@ -1,2 +1,4 @@
 // The C interface. Every call returns 0 and sets its outputs, or returns the refusal's number and leaves every output untouched.
 mod bitmap_reading;
+// The C interface (include/barcovento.h): each call returns 0 and sets its outputs, or returns the refusal and leaves them untouched.
+mod row_calls;

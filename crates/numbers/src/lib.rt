@@ -3,6 +3,7 @@ ghost use mathlib.Core.Path.{_≡_};
 ghost use Prim.Native.Nat.{_≤_, _<_, _+_, _*_, _^_, _/_, _%_};
 ghost use lib.ListN.{length};
 ghost use lib.Dec.{leb};
+ghost use lib.Ieee.{binary32, binary64, toBits};
 ghost use Rattle.common.specs.Bytes.{littleAt, bigAt, signedOf, ceil8, lowBit, lowSpareZero};
 ghost use Rattle.row_spec.specs.Varint.{varintAt, lastGroup};
 ghost use Rattle.row_spec.specs.Value.{single, double, wordAt};
@@ -95,6 +96,33 @@ pub fn float64(n: u64) -> Field
         return Field::NanF64(n);
     }
     Field::F64(f64::from_bits(n))
+}
+
+// Four bytes as a wide number.
+fn wide32(x: u32) -> u64
+    ensures { λ r. ⌜ r ≡ x ⌝ }
+{
+    x as u64
+}
+
+// The bits of a float; a NaN has the pattern that the language gives it.
+pub fn float_bits(x: f32) -> u64
+    ensures { λ r. ⌜ r ≡ toBits binary32 x ⌝ }
+{
+    if x != x {
+        return 0x7fc0_0000;
+    }
+    wide32(f32::to_bits(x))
+}
+
+// The bits of a double; a NaN has the pattern that the language gives it.
+pub fn double_bits(x: f64) -> u64
+    ensures { λ r. ⌜ r ≡ toBits binary64 x ⌝ }
+{
+    if x != x {
+        return 0x7ff8_0000_0000_0000;
+    }
+    f64::to_bits(x)
 }
 
 // A varint that ends in the group b, which has the weight w; the groups before it make v.

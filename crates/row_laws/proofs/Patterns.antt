@@ -1,14 +1,16 @@
 -- What the test on a pattern says, once for both formats, and that an answer keeps the stored bits. Assumes nothing.
-use Prim.Native.Nat.{ℕ, _*_, _%_, _<_, _≤_}
+use Prim.Native.Nat.{_+_, _/_, ℕ, _*_, _%_, _<_, _≤_}
 use mathlib.Core.Path.{_≡_, refl, sym, ap, subst, _∙_}
 use mathlib.Core.Bool.{Bool, true, false, not}
 use lib.Dec.{T}
-use lib.Ieee.{Format, Float, binary32, binary64, ones, hid, top, nanBits, ofBits, toBits}
+use lib.Ieee.Compare.{differs-from-itself, nan-differs}
+use native.Mathlib.Omega.{arith}
+use lib.Ieee.{Format, Float, nan, inf, fin, ne, isNan, binary32, binary64, ones, hid, top, nanBits, ofBits, toBits}
 use lib.Ieee.Bits.{nanBits-above, nanBits-is, toBits-ofBits}
 use borrow.Author.Tests.{lt-ltb, le-ltb}
 use Rattle.row_spec.specs.declared.Field.{Field}
 use Rattle.row_spec.specs.Value.{pattern, single, double}
-use Rattle.row_spec.specs.Answer.{Shown, shown}
+use Rattle.row_spec.specs.Answer.{shown}
 use Rattle.row_spec.specs.declared.Field.the-variants.{F32, NanF32, F64, NanF64}
 use Rattle.common.specs.Outcome.{pick}
 
@@ -50,3 +52,15 @@ single-bits n h = stored-bits binary32 NanF32 F32 (λ x. shown x .bits) (λ m. r
 pub double-bits : (n : ℕ) → n < 2 * top binary64 → shown (double n) .bits ≡ n
 unfolding shown
 double-bits n h = stored-bits binary64 NanF64 F64 (λ x. shown x .bits) (λ m. refl) (λ x. refl) n h
+
+-- ---- from a float back to its bits: x != x tells a NaN
+pub may-write : (x : Float) → ne x x ≡ false → T (not (isNan x))
+unfolding isNan
+may-write nan e = absurd (let z : _≡_ {A = ℕ} 0 1 = cc nan-differs in omega arith)
+may-write (inf s) e = tt
+may-write (fin s m k) e = tt
+
+-- the pattern that the library writes for its one NaN
+pub nan-bits : (f : Format) (x : Float) → ne x x ≡ true → toBits f x ≡ ones f * hid f + hid f / 2
+unfolding toBits
+nan-bits f x e = rw (differs-from-itself x (subst T (sym e) tt))

@@ -12,6 +12,8 @@ use Rattle.row_spec.specs.declared.ColumnType.{ColumnType}
 use Rattle.row_spec.specs.declared.ColumnType.the-variants as type
 use Rattle.row_spec.specs.declared.Field.{Field}
 use Rattle.row_spec.specs.declared.Field.the-variants as field
+use Rattle.row_spec.specs.declared.Shown.{Shown}
+use Rattle.row_spec.specs.declared.TypeShown.{TypeShown}
 use Rattle.row_spec.specs.declared.CountAnswer.{CountAnswer}
 use Rattle.row_spec.specs.declared.CountAnswer.the-variants as count
 use Rattle.row_spec.specs.declared.ColumnAnswer.{ColumnAnswer}
@@ -33,25 +35,17 @@ fieldOutcome (asked.Field f) = found f
 
 -- a field as plain numbers: kind 0 null, 1 yes or no (whole is 1 or 0), 2 whole number, 3 float and 4 double (their stored bits),
 -- 5 time (whole and nanos), 6 place (start and length); what a kind does not use is 0
-pub record Shown : Type 0 where
-  pub kind : ℕ
-  pub whole : ℤ
-  pub bits : ℕ
-  pub nanos : ℕ
-  pub start : ℕ
-  pub length : ℕ
-
-abbrev pub plain : ℕ → ℤ → ℕ → Shown
-plain k z b = record { kind = k; whole = z; bits = b; nanos = 0; start = 0; length = 0 }
+abbrev pub asPlain : ℕ → ℤ → ℕ → Shown
+asPlain k z b = record { kind = k; whole = z; bits = b; nanos = 0; start = 0; length = 0 }
 
 unfoldable pub shown : Field → Shown
-shown field.Null = plain 0 (pos 0) 0
-shown (field.Bool b) = plain 1 (pos (one b)) 0
-shown (field.Whole z) = plain 2 z 0
-shown (field.F32 x) = plain 3 (pos 0) (toBits binary32 x)
-shown (field.NanF32 n) = plain 3 (pos 0) n
-shown (field.F64 x) = plain 4 (pos 0) (toBits binary64 x)
-shown (field.NanF64 n) = plain 4 (pos 0) n
+shown field.Null = asPlain 0 (pos 0) 0
+shown (field.Bool b) = asPlain 1 (pos (one b)) 0
+shown (field.Whole z) = asPlain 2 z 0
+shown (field.F32 x) = asPlain 3 (pos 0) (toBits binary32 x)
+shown (field.NanF32 n) = asPlain 3 (pos 0) n
+shown (field.F64 x) = asPlain 4 (pos 0) (toBits binary64 x)
+shown (field.NanF64 n) = asPlain 4 (pos 0) n
 shown (field.Time z n) = record { kind = 5; whole = z; bits = 0; nanos = n; start = 0; length = 0 }
 shown (field.Place a l) = record { kind = 6; whole = pos 0; bits = 0; nanos = 0; start = a; length = l }
 
@@ -81,11 +75,6 @@ inside n (field.NanF64 m) = true
 inside n (field.Time z m) = true
 
 -- a type's id, its length or precision (0 where it has none), and its scale (0 where it has none)
-pub record TypeShown : Type 0 where
-  pub id : ℕ
-  pub size : ℕ
-  pub scale : ℕ
-
 unfoldable pub typeShown : ColumnType → TypeShown
 typeShown type.Boolean = record { id = 0; size = 0; scale = 0 }
 typeShown type.TinyInt = record { id = 1; size = 0; scale = 0 }

@@ -71,6 +71,24 @@ pub enum Field {
     Place { start: usize, len: usize },
 }
 
+// A field as plain numbers: kind 0 null, 1 yes or no (in whole), 2 whole number, 3 float and 4 double (their stored bits), 5 time
+// (whole and nanos), 6 place (start and length). What a kind does not use is 0.
+pub struct Shown {
+    pub kind: u8,
+    pub whole: i64,
+    pub bits: u64,
+    pub nanos: u32,
+    pub start: usize,
+    pub length: usize,
+}
+
+// A type as plain numbers: its id, its length or precision, its scale; 0 where it has none.
+pub struct TypeShown {
+    pub id: u8,
+    pub size: u32,
+    pub scale: u32,
+}
+
 // How a value is stored: whole numbers of 1, 2, 4 and 8 bytes; bytes after their length, at least so many; an 8-byte time with no
 // nanoseconds, with a varint of them, or with 4 bytes of them.
 pub enum Storage {

@@ -6,7 +6,9 @@ ghost use Rattle.row_spec.specs.Value.{booleanAt, wholeAt, sizedOf, nanosOf, co
 ghost use mathlib.Core.Bool.{true};
 ghost use Rattle.common.specs.Outcome.{pick};
 ghost use Rattle.row_spec.specs.Block.{fieldAt};
-ghost use Rattle.row_spec.specs.Answer.{after, fieldOutcome, inside, partOf};
+ghost use Rattle.row_spec.specs.Answer.{after, fieldOutcome, inside, partOf, shown, asPlain};
+use numbers::double_bits;
+use numbers::float_bits;
 use numbers::float32;
 use numbers::float64;
 use numbers::has;
@@ -18,6 +20,7 @@ use row_spec::Column;
 use row_spec::ColumnType;
 use row_spec::Field;
 use row_spec::FieldAnswer;
+use row_spec::Shown;
 use row_spec::Storage;
 use row_spec::Value;
 use row_spec::Varint;
@@ -70,11 +73,11 @@ fn double_at(big: bool, s: &[u8], at: usize) -> Value
     Value::CutShort
 }
 
-// The place of len bytes that start at `start`.
-fn place(start: usize, len: usize) -> Field
-    ensures { λ r. ⌜ r ≡ Field.Place start len ⌝ }
+// The place of len bytes that start at `at`.
+fn place(at: usize, len: usize) -> Field
+    ensures { λ r. ⌜ r ≡ Field.Place at len ⌝ }
 {
-    Field::Place { start, len }
+    Field::Place { start: at, len }
 }
 
 // Bytes whose length was read as r, at least so many.
@@ -262,6 +265,56 @@ pub fn part<'a>(s: &'a [u8], answer: FieldAnswer) -> &'a [u8]
             Field::NanF32(_) => &s[..0],
             Field::NanF64(_) => &s[..0],
             Field::Time { count: _, nanos: _ } => &s[..0],
+        },
+    }
+}
+
+// A field with a whole number or bits and nothing else.
+fn plain(kind: u8, whole: i64, bits: u64) -> Shown
+    ensures { λ r. ⌜ r ≡ asPlain kind whole bits ⌝ }
+{
+    Shown {
+        kind,
+        whole,
+        bits,
+        nanos: 0,
+        start: 0,
+        length: 0,
+    }
+}
+
+// A field as plain numbers.
+pub fn show(f: Field) -> Shown
+    ensures { λ r. ⌜ r ≡ shown f ⌝ }
+{
+    match f {
+        Field::Null => plain(0, 0, 0),
+        Field::Bool(b) => {
+            if b {
+                return plain(1, 1, 0);
+            }
+            plain(1, 0, 0)
+        }
+        Field::Whole(z) => plain(2, z, 0),
+        Field::F32(x) => plain(3, 0, float_bits(x)),
+        Field::NanF32(n) => plain(3, 0, n as u64),
+        Field::F64(x) => plain(4, 0, double_bits(x)),
+        Field::NanF64(n) => plain(4, 0, n),
+        Field::Time { count, nanos } => Shown {
+            kind: 5,
+            whole: count,
+            bits: 0,
+            nanos,
+            start: 0,
+            length: 0,
+        },
+        Field::Place { start, len } => Shown {
+            kind: 6,
+            whole: 0,
+            bits: 0,
+            nanos: 0,
+            start,
+            length: len,
         },
     }
 }

@@ -1,0 +1,30 @@
+-- 01, "P bucket of TINYINT NOT NULL, N 3, `01 00 02 00 02 01 02 02`: 1, 2, 1."
+use Prim.Native.Nat.{ℕ}
+use mathlib.Core.Path.{_≡_, refl}
+use mathlib.Core.List.{List, [], _∷_}
+use lib.IntN.{pos}
+use lib.Count.{leadingZeros}
+use Rattle.common.specs.Outcome.{Outcome, found, need}
+use Rattle.common.specs.Lists.{from, every}
+use Rattle.common.specs.Bytes.{ceil8, bigAt, signedOf, lowBit, lowBits, lowCount, lowSpareZero}
+use Rattle.row_spec.specs.Varint.{varintAt, groups, lastGroup}
+use Rattle.row_spec.specs.Schema.{schema, columnsFrom, columnAt, typeAt, types, numbered, decimal}
+use Rattle.row_spec.specs.Value.{valueAt, storedAt, wholeAt, wordAt, room}
+use Rattle.bucket_spec.specs.Piece.{values, nth, indexWidth, tableOf, constPiece, tablePiece, nullsPiece, live, indexes, dataPiece, piece, valueOf}
+use Rattle.bucket_spec.specs.Bucket.{along, colOf, tagOf, mapped, pieceOf, parts, tagAllowed, body, isNull, answer, headNumber, tagsAt, bucket, bucketField}
+use Rattle.row_spec.specs.declared.Field.{Field}
+use Rattle.row_spec.specs.declared.Field.the-variants.{Whole}
+
+abbrev pub bucketSchema : List ℕ
+bucketSchema = 1 ∷ 1 ∷ 0 ∷ []
+
+abbrev pub bucketBytes : List ℕ
+bucketBytes = 1 ∷ 0 ∷ 2 ∷ 0 ∷ 2 ∷ 1 ∷ 2 ∷ 2 ∷ []
+
+-- the fields of rows 0, 1 and 2
+abbrev pub bucketRows : List (Outcome Field)
+bucketRows = bucketField bucketSchema 3 bucketBytes 0 0 ∷ bucketField bucketSchema 3 bucketBytes 1 0 ∷ bucketField bucketSchema 3 bucketBytes 2 0 ∷ []
+
+pub bucket-line : bucketRows ≡ found (Whole (pos 1)) ∷ found (Whole (pos 2)) ∷ found (Whole (pos 1)) ∷ []
+unfolding need from every ceil8 bigAt signedOf lowBit lowBits lowCount lowSpareZero varintAt groups lastGroup schema columnsFrom columnAt typeAt types numbered decimal valueAt storedAt wholeAt wordAt room values nth indexWidth tableOf constPiece tablePiece nullsPiece live indexes dataPiece piece valueOf along colOf tagOf mapped pieceOf parts tagAllowed body isNull answer headNumber tagsAt bucket bucketField leadingZeros
+bucket-line = refl

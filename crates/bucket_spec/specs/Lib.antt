@@ -1,0 +1,4 @@
+pub mod Piece
+pub mod Bucket
+pub mod Read
+pub mod Examples

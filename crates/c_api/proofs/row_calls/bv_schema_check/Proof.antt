@@ -1,0 +1,25 @@
+-- The answer is the definition's: a refusal sets nothing, a count is written. Assumes nothing.
+use Rattle.row_spec.specs.Answer.{countOutcome}
+use mathlib.Core.Path.{sym, ap, _∙_}
+use borrow.Author.Needs.{needs}
+use Rattle.c_api.proofs.row_calls.bv_schema_check.Statement.{statement}
+use Rattle.c_api.proofs.row_calls.bv_schema_check.Tie as tie
+
+check-requires : tie.Need-check-requires
+check-requires c κs = search needs
+
+enum-known-n : tie.Need-enum-known-n
+enum-known-n c = search needs
+
+enum-known-n-2 : tie.Need-enum-known-n-2
+enum-known-n-2 c = search needs
+
+returns : tie.Need-returns
+returns c = let e = sym (c .before .before .before .check .ensures) ∙ ap countOutcome (c .before .n .given .1) in (rw e, rw e)
+
+returns-2 : tie.Need-returns-2
+returns-2 c = let e = sym (c .before .before .before .check .ensures) ∙ ap countOutcome (c .before .n2 .given .1) in (rw e, rw e)
+
+pub bv-schema-check-spec : {M : Type 1} → statement M
+bv-schema-check-spec =
+    tie.close (tie.spec check-requires enum-known-n enum-known-n-2 returns returns-2)
