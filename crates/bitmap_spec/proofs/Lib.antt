@@ -1,3 +1,4 @@
+pub mod Examples
 pub mod Tally
 pub mod Window
 pub mod Parts

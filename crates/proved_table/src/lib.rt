@@ -1,0 +1,2 @@
+// The proved table of document 01, with no code: its lines are in specs/, the one statement that all of them hold in proofs/.
+// Inner: no entry point.
