@@ -1,3 +1,4 @@
 pub mod Status
 pub mod BitmapRead
+pub mod BitmapWrite
 pub mod Outputs

@@ -59,7 +59,7 @@ pub extern "C" fn bv_bitmap_page(
     place: &mut u32,
     finished: &mut u8,
     list: &mut [u32],
-    given: &mut usize,
+    given: &mut u32,
 ) -> u32
     ensures { λ r. ⌜ PageCall (ask.page (now (bytes .entry)) (listing (now (place .entry)) (now (finished .entry))) (length (now (list .entry)))) r
         (record { list = now (list .entry); given = now (given .entry); place = now (place .entry); mark = now (finished .entry) })
@@ -73,7 +73,7 @@ pub extern "C" fn bv_bitmap_page(
     match bitmap_list::page(bytes, at, list) {
         Paged::Refused(r) => r,
         Paged::Page { given: n, next } => {
-            *given = n;
+            *given = n as u32;
             *place = next.place;
             if was == 0 {
                 *finished = if next.finished { 1 } else { 0 };

@@ -1,4 +1,5 @@
-// The C interface. Every call returns 0 and sets its outputs, or returns the refusal's number and leaves every output untouched.
+// The C interface (include/barcovento.h). Every call returns 0 and sets its outputs, or returns the refusal's number and leaves every
+// output untouched.
 mod bitmap_reading;
-// The C interface (include/barcovento.h): each call returns 0 and sets its outputs, or returns the refusal and leaves them untouched.
+mod bitmap_writing;
 mod row_calls;

@@ -1,10 +1,13 @@
 -- The answer's cases are the outcome's; the mark is written only where it was 0.
 -- Assumes nothing.
+use mathlib.Core.Path.{sym, ap, _∙_}
+use native.Mathlib.Omega.{arith}
+use Rattle.bitmap_list.specs.Post.{paged}
 use borrow.Author.Tests.{eq-eqb, ne-eqb}
 use Prim.Native.Nat.{_-_}
 use borrow.Author.Needs.{needs}
 use Rattle.c_api.specs.BitmapRead.{listing}
-use Rattle.c_api.proofs.Pages.{refused-call, page-call}
+use Rattle.c_api.proofs.Pages.{refused-call, page-call, page-few}
 use Rattle.c_api.proofs.bitmap_reading.bv_bitmap_page.Statement.{statement}
 use Rattle.c_api.proofs.bitmap_reading.bv_bitmap_page.Tie as tie
 
@@ -16,6 +19,13 @@ enum-known-r c = search needs
 
 enum-known-n : tie.Need-enum-known-n
 enum-known-n c = search needs
+
+cast-given : tie.Need-cast-given
+unfolding listing
+cast-given c =
+    let a = c .before .before .before .before .before .before .before .before .before .before .before .args in
+    let p = c .before .before .before .before .before .page in
+    omega (arith, page-few (a .bytes .now) _ _ _ _ (sym (ap paged (c .before .n .given .1)) ∙ p .ensures .says))
 
 same-length : tie.Need-same-length
 same-length c = search needs
@@ -60,6 +70,7 @@ bv-bitmap-page-spec =
     page-requires
     enum-known-r
     enum-known-n
+    cast-given
     same-length
     returns
     same-length-2
