@@ -31,9 +31,8 @@ fn dense_members(s: &[u8], at: usize, out: &mut [u8]) -> usize
     let mut n: usize = 0;
     let mut j: usize = 0;
     while j < 256 {
-        let b = s[at + j / 8];
         out[n] = j as u8;
-        n += ((b >> (7 - j % 8)) % 2) as usize;
+        n += bits::bit_of(s[at + j / 8], j) as usize;
         j += 1;
     }
     n
