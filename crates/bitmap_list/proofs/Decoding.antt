@@ -17,7 +17,7 @@ use Rattle.bitmap_spec.specs.Judge.{dense, container}
 use Rattle.bitmap_spec.proofs.Tally.{bit-at, bit-lt}
 use Rattle.bitmap_laws.proofs.Cuts.{two-runs}
 use Rattle.bitmap_read.proofs.Containers.{sparse-is, dense-is}
-use Rattle.bitmap_list.specs.Post.{Decoded}
+use Rattle.bitmap_list.specs.Post.{Decoded, Spread}
 
 pub append-none : (l : List ℕ) → l ++ [] ≡ l
 append-none [] = refl
@@ -30,13 +30,6 @@ last-one f k = refl
 none-yet : (f : ℕ → Bool) (k : ℕ) → keep f (from k 0) ≡ []
 unfolding keep from
 none-yet f k = refl
-
--- the first j bits are passed, and the n set ones among them are written
-pub record Spread (s : List ℕ) (at : ℕ) (out : List ℕ) (n j : ℕ) : Type 0 where
-  pub upto : j ≤ 256
-  pub less : n ≤ j
-  pub long : length out ≡ 256
-  pub is : take n out ≡ keep (λ i. eqb (bit s (at * 8 + i)) 1) (from 0 j)
 
 pub spread-none : (s : List ℕ) (at : ℕ) (out : List ℕ) → length out ≡ 256 → Spread s at out 0 0
 spread-none s at out e = record { upto = omega arith; less = omega arith; long = e; is = sym (none-yet (λ i. eqb (bit s (at * 8 + i)) 1) 0) }
@@ -65,6 +58,13 @@ module _ (s : List ℕ) (at : ℕ) (out : List ℕ) (n j : ℕ) (h : Spread s at
             ∙ ap₂ (λ (x y : List ℕ). x ++ y) (h .is) (sym (last-one (λ i. eqb (bit s (at * 8 + i)) 1) (0 + j) ∙ rw (zero-add j, ← q)))
             ∙ sym (two-runs (λ i. eqb (bit s (at * 8 + i)) 1) 0 j 1);
       }
+
+  -- the same, of bit i of byte q
+  pub spread-bit : (q i b : ℕ) → q < 32 → i < 8 → j ≡ q * 8 + i → b ≡ getD s (at + q) 0 / 2 ^ (7 - i % 8) % 2 → Spread s at (set out n j) (n + b) (j + 1)
+  spread-bit q i b l g e p =
+      let f : j / 8 ≡ q = omega arith in
+      let h : j % 8 ≡ i % 8 = omega arith in
+      spread-more b (omega arith) (rw (f, h) p)
 
   pub spread-all : 256 ≤ j → (n ≡ length (dense s at)) × (take n out ≡ dense s at)
   unfolding dense

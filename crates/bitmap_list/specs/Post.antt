@@ -1,10 +1,12 @@
 -- What a page promises: its answer, and the list that it leaves.
-use Prim.Native.Nat.{ℕ, _≤_}
+use Prim.Native.Nat.{ℕ, _+_, _*_, _≤_}
 use mathlib.Core.Path.{_≡_}
 use mathlib.Core.List.{List, _++_}
 use lib.ListN.{length, take, drop}
-use lib.Dec.{leb}
+use lib.Dec.{leb, eqb}
 use Rattle.common.specs.Outcome.{Outcome, refused, found}
+use Rattle.common.specs.Lists.{from, keep}
+use Rattle.bitmap_spec.specs.Bits.{bit}
 use Rattle.bitmap_spec.specs.Judge.{dense}
 use Rattle.bitmap_spec.specs.Ask.{Page, placeAfter}
 use Rattle.bitmap_spec.specs.declared.Listing.{Listing}
@@ -46,3 +48,10 @@ pub record Filled (l : List ℕ) (place : ℕ) (before after : List ℕ) (r : Ru
 -- where d says dense, out holds the members of the container at byte at
 abbrev pub Decoded : List ℕ → ℕ → ℕ → List ℕ → Type 0
 Decoded s at d out = 32 ≤ d → take (length (dense s at)) out ≡ dense s at
+
+-- the first j bits are passed, and the n set ones among them are written
+pub record Spread (s : List ℕ) (at : ℕ) (out : List ℕ) (n j : ℕ) : Type 0 where
+  pub upto : j ≤ 256
+  pub less : n ≤ j
+  pub long : length out ≡ 256
+  pub is : take n out ≡ keep (λ i. eqb (bit s (at * 8 + i)) 1) (from 0 j)

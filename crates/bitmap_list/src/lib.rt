@@ -1,12 +1,12 @@
 // Listing a bitmap's members by pages. Place and finished mark go in and out by value.
 ghost use mathlib.Core.Path.{_≡_};
-ghost use Prim.Native.Nat.{_+_, _≤_, _<_};
+ghost use Prim.Native.Nat.{_+_, _*_, _≤_, _<_};
 ghost use lib.ListN.{length, getD, take, drop};
 ghost use Rattle.bitmap_spec.specs.Judge.{sizeOf, dense, container, membersFrom};
 ghost use Rattle.bitmap_spec.specs.Ask as ask;
 ghost use Rattle.judge.specs.Post.{View, viewed};
 ghost use Rattle.bitmap_read.proofs.Held.{Walk};
-ghost use Rattle.bitmap_list.specs.Post.{Pages, Filled, Decoded};
+ghost use Rattle.bitmap_list.specs.Post.{Pages, Filled, Decoded, Spread};
 use bitmap_spec::Listing;
 use judge::Judged;
 
@@ -23,18 +23,32 @@ struct Run {
     all: bool,
 }
 
+// Writes the members among the eight bits of byte q of the dense container at byte `at`, behind the n that are there.
+fn byte_members(s: &[u8], at: usize, q: usize, out: &mut [u8], n: usize) -> usize
+    requires { ⌜ (at + 32 ≤ length (now s)) × (q < 32) × Spread (now s) at (now out) n (q * 8) ⌝ }
+    ensures { λ r. ⌜ Spread (now (s .entry)) at (now (out .exit)) r (q * 8 + 8) ⌝ }
+{
+    let b = s[at + q];
+    let mut m = n;
+    let mut i: usize = 0;
+    while i < 8 {
+        out[m] = (q * 8 + i) as u8;
+        m += bits::bit_of(b, i) as usize;
+        i += 1;
+    }
+    m
+}
+
 // Writes the members of the dense container at byte `at` and says how many there are.
 fn dense_members(s: &[u8], at: usize, out: &mut [u8]) -> usize
     requires { ⌜ (at + 32 ≤ length (now s)) × (length (now out) ≡ 256) ⌝ }
     ensures { λ r. ⌜ (r ≡ length (dense (now (s .entry)) at)) × (take r (now (out .exit)) ≡ dense (now (s .entry)) at) ⌝ }
 {
     let mut n: usize = 0;
-    let mut j: usize = 0;
-    while j < 256 {
-        let b = s[at + j / 8];
-        out[n] = j as u8;
-        n += ((b >> (7 - j % 8)) % 2) as usize;
-        j += 1;
+    let mut q: usize = 0;
+    while q < 32 {
+        n = byte_members(s, at, q, out, n);
+        q += 1;
     }
     n
 }

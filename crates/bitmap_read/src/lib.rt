@@ -50,8 +50,8 @@ fn container_has(s: &[u8], at: usize, d: u8, j: u32) -> bool
     if d < 32 {
         return listed(s, at, d as usize, j);
     }
-    let b = s[at + (j / 8) as usize];
-    (b >> (7 - j % 8)) % 2 == 1
+    let i = j as usize;
+    bits::bit_of(s[at + i / 8], i) == 1
 }
 
 // Whether the position is a member of the set that the first n descriptors of d and the containers from `start` on hold.
@@ -110,13 +110,13 @@ fn set_below(s: &[u8], d: &[u8; 8192], n: usize, start: usize, position: u32) ->
     requires { ⌜ View (now s) (now d) n start (viewed (now s) (now d) n start) ⌝ }
     ensures { λ r. ⌜ r ≡ ask.below position (viewed (now (s .entry)) (now (d .entry)) n start) ⌝ }
 {
-    let k = (position / 256) as usize;
+    let own = (position / 256) as usize;
     let mut at = start;
     let mut below: u32 = 0;
     let mut i: usize = 0;
     while i < n {
         let t = d[i];
-        if i == k {
+        if i == own {
             return below + container_below(s, at, t, position % 256);
         }
         below += container_count(s, at, t);

@@ -39,6 +39,13 @@ pub fn dense_below(s: &[u8], at: usize, j: usize) -> u32
     whole + u32::count_ones(last >> (8 - j % 8))
 }
 
+// Bit j of a byte, or of the byte that holds bit j of many: bit 0 is the highest.
+pub fn bit_of(b: u8, j: usize) -> u8
+    ensures { λ r. ⌜ r ≡ b / 2 ^ (7 - j % 8) % 2 ⌝ }
+{
+    (b >> (7 - j % 8)) % 2
+}
+
 // The w bits that start r bits below the top of the sixteen of hi and lo.
 fn cut16(hi: u8, lo: u8, r: u32, w: u32) -> u32
     requires { ⌜ (r + w ≤ 16) × (w ≤ 8) ⌝ }

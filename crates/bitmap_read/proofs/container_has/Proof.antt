@@ -1,6 +1,7 @@
 -- Sparse: j is one of the bytes. Dense: bit j is set.
 -- Assumes nothing.
-use Prim.Native.Nat.{_-_}
+use Prim.Native.Nat.{ℕ, _-_}
+use lib.Dec.{eqb}
 use mathlib.Core.Path.{ap, _∙_}
 use native.Mathlib.Omega.{arith}
 use borrow.Author.Needs.{needs}
@@ -16,26 +17,17 @@ listed-requires c κs = omega (arith, size-sparse (c .before .before .args .d) (
 returns : tie.Need-returns
 returns c = c .listed .ensures ∙ ap (mem (c .before .before .before .args .j)) (sparse-is (c .before .before .before .args .s .now) (c .before .before .before .args .at) (c .before .before .before .args .d) (c .before .if1 .taken))
 
-cast-b : tie.Need-cast-b
-cast-b c = search needs
+add-bit-of : tie.Need-add-bit-of
+add-bit-of c = search needs
 
-add-b : tie.Need-add-b
-add-b c = search needs
+shared-slice-read-bit-of : tie.Need-shared-slice-read-bit-of
+shared-slice-read-bit-of c = omega (arith, size-dense (c .before .before .before .args .d) (c .before .if1 .left))
 
-shared-slice-read-b : tie.Need-shared-slice-read-b
-shared-slice-read-b c = omega (arith, size-dense (c .before .before .before .args .d) (c .before .if1 .left))
-
-sub-result : tie.Need-sub-result
-sub-result c = search needs
-
-cast-result : tie.Need-cast-result
-cast-result c = search needs
-
-shr-result : tie.Need-shr-result
-shr-result c = search needs
+bit-of-requires : tie.Need-bit-of-requires
+bit-of-requires c κs = search needs
 
 returns-2 : tie.Need-returns-2
-returns-2 c = dense-has (c .before .before .before .args .s .now) (c .before .before .before .args .at) (c .before .before .before .args .d) (c .before .before .before .args .j) (c .before .if1 .left) (omega arith)
+returns-2 c = ap (λ (b : ℕ). eqb b 1) (c .bit-of .ensures) ∙ dense-has (c .before .before .before .before .args .s .now) (c .before .before .before .before .args .at) (c .before .before .before .before .args .d) (c .before .before .before .before .args .j) (c .before .before .if1 .left) (omega arith)
 
 pub container-has-spec : {M : Type 1} → statement M
 container-has-spec =
@@ -43,10 +35,7 @@ container-has-spec =
     (tie.spec
     listed-requires
     returns
-    cast-b
-    add-b
-    shared-slice-read-b
-    sub-result
-    cast-result
-    shr-result
+    add-bit-of
+    shared-slice-read-bit-of
+    bit-of-requires
     returns-2)

@@ -13,13 +13,13 @@ use Rattle.bitmap_read.proofs.set_below.Statement.{statement}
 use Rattle.bitmap_read.proofs.set_below.Tie as tie
 
 abbrev Inv-loop : tie.InvT-loop
-Inv-loop s d n start position k at₀ below₀ i₀ at below i = (k ≡ position / 256) × (n ≤ 8192) × (length d ≡ 8192) × Counting s d n start position at below i
+Inv-loop s d n start position own at₀ below₀ i₀ at below i = (own ≡ position / 256) × (n ≤ 8192) × (length d ≡ 8192) × Counting s d n start position at below i
 
 abbrev μ-loop : tie.MeasureT-loop
-μ-loop s d n start position k at₀ below₀ i₀ at below i = n - i
+μ-loop s d n start position own at₀ below₀ i₀ at below i = n - i
 
-cast-k : tie.Need-cast-k Inv-loop μ-loop
-cast-k c = search needs
+cast-own : tie.Need-cast-own Inv-loop μ-loop
+cast-own c = search needs
 
 loop-holds : tie.Need-loop-holds Inv-loop μ-loop
 loop-holds c = (refl, c .before .pre .few, c .before .pre .long, counting-start (c .before .args .s .now) (c .before .args .d .now) (c .before .args .n) (c .before .args .start) (c .before .args .position) (c .before .pre))
@@ -92,7 +92,7 @@ set-below-spec =
     (tie.spec
     Inv-loop
     μ-loop
-    cast-k
+    cast-own
     loop-holds
     element-copy-out-t
     container-below-requires
