@@ -16,6 +16,8 @@ use Rattle.bitmap_spec.specs.Ask.{below, check, probe, rank, atOrAbove, 
 use Rattle.bitmap_spec.specs.Sets.{combine}
 use Rattle.bitmap_spec.specs.Output.{placed, write, called}
 use Rattle.bitmap_spec.specs.declared.Listing.{Listing}
+use Rattle.bitmap_spec.specs.declared.Operation.{Operation}
+use Rattle.bitmap_spec.specs.declared.Operation.the-variants.{Union, Intersection, Difference, SymmetricDifference}
 
 -- ---- what a line `unfolding computed` opens: every definition
 
@@ -448,3 +450,56 @@ page-finished = refl
 pub page-refused : page (2 ∷ 0 ∷ 0 ∷ 0 ∷ 0 ∷ 0 ∷ []) (listing 5 true) 9 ≡ refused 2
 unfolding computed
 page-refused = refl
+
+-- ---- combining
+
+-- the forms of {0}, {256} and {0, 256}
+abbrev form-0 : List ℕ
+form-0 = 1 ∷ 1 ∷ 0 ∷ 0 ∷ 1 ∷ 0 ∷ 0 ∷ 0 ∷ 1 ∷ 0 ∷ []
+
+abbrev form-256 : List ℕ
+form-256 = 1 ∷ 1 ∷ 0 ∷ 0 ∷ 2 ∷ 0 ∷ 0x10 ∷ 1 ∷ 0 ∷ 0x01 ∷ 0x80 ∷ 0 ∷ []
+
+abbrev form-both : List ℕ
+form-both = 1 ∷ 2 ∷ 0 ∷ 0 ∷ 2 ∷ 0 ∷ 0 ∷ 0 ∷ 1 ∷ 0 ∷ 0 ∷ []
+
+pub union : called Union form-0 form-256 11 ≡ found form-both
+unfolding computed
+union = refl
+
+-- no empty container is written after the last member
+pub intersection : called Intersection form-both form-0 10 ≡ found form-0
+unfolding computed
+intersection = refl
+
+pub difference : called Difference form-both form-0 12 ≡ found form-256
+unfolding computed
+difference = refl
+
+-- nothing lies in the first alone
+pub difference-none : called Difference form-0 form-both 6 ≡ found (1 ∷ 0 ∷ 0 ∷ 0 ∷ 0 ∷ 0 ∷ [])
+unfolding computed
+difference-none = refl
+
+pub symmetric-difference : called SymmetricDifference form-0 form-both 12 ≡ found form-256
+unfolding computed
+symmetric-difference = refl
+
+-- {0} in another form, "rewritten as above"
+pub rewritten : called Union (1 ∷ 1 ∷ 0 ∷ 0 ∷ 2 ∷ 0 ∷ 0x10 ∷ 1 ∷ 0 ∷ 0x00 ∷ 0x80 ∷ 0 ∷ []) form-0 10 ≡ found form-0
+unfolding computed
+rewritten = refl
+
+-- "the first bitmap is judged wholly before the second": 11 of the first, 1 of the second
+pub first-before-second : called Union (1 ∷ 2 ∷ 0 ∷ 0 ∷ 1 ∷ 0 ∷ 0 ∷ 0 ∷ 1 ∷ 0 ∷ []) [] 0 ≡ refused 11
+unfolding computed
+first-before-second = refl
+
+-- "room (13) is last"
+pub second-before-room : called Union form-0 [] 0 ≡ refused 1
+unfolding computed
+second-before-room = refl
+
+pub union-no-room : called Union form-0 form-256 10 ≡ refused 13
+unfolding computed
+union-no-room = refl
