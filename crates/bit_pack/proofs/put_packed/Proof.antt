@@ -1,22 +1,14 @@
-use mathlib.Core.List.{List}
+-- The invariant (Packing): q bytes are out and acc has the r bits that follow them; a turn adds one value and emits a whole byte.
+-- Assumes nothing.
 use mathlib.Core.Logic.{⊎-elim}
-use Rattle.common.specs.Bytes.{ceil8}
-use Rattle.bitmap_spec.specs.Bits.{packValues}
-use Rattle.bitmap_spec.specs.Output.{written}
 use Rattle.bit_pack.proofs.Bytes.{Packing, start, small, long, more, byte-lt, at-fits, emit, full, last-lt, last-fits, closed}
 use borrow.Author.Needs.{needs}
-use mathlib.Core.Path.{_≡_, refl, sym, ap, _∙_}
-use Prim.Native.Nat.{ℕ, zero, suc, _+_, _-_, _*_, _≤_, _<_}
+use mathlib.Core.Path.{_∙_}
+use Prim.Native.Nat.{_-_}
 use native.Mathlib.Omega.{arith}
 use lib.ListN.{length, getD, length-set}
 use Rattle.bit_pack.proofs.put_packed.Statement.{statement}
 use Rattle.bit_pack.proofs.put_packed.Tie as tie
-use Rattle.bit_pack.proofs.put_packed.Reads as reads
-use Rattle.bit_pack.proofs.put_packed.Lts as lts
-use Rattle.bit_pack.proofs.high_byte.Reads as high-byte-reads
-use Rattle.bit_pack.proofs.last_byte.Reads as last-byte-reads
-use Rattle.bit_pack.proofs.low_bits.Reads as low-bits-reads
-use Rattle.bit_pack.proofs.push.Reads as push-reads
 
 abbrev Inv-loop : tie.InvT-loop
 Inv-loop vals w out₀ at acc₀ r₀ q₀ i₀ out acc r q i = Packing (λ k. getD vals k 0) w (length vals) out₀ out at acc r q i
@@ -24,51 +16,39 @@ Inv-loop vals w out₀ at acc₀ r₀ q₀ i₀ out acc r q i = Packing (λ k. g
 abbrev μ-loop : tie.MeasureT-loop
 μ-loop vals w out₀ at acc₀ r₀ q₀ i₀ out acc r q i = length vals - i
 
--- src/lib.rt:52:5
 loop-holds : tie.Need-loop-holds Inv-loop μ-loop
 loop-holds c = start (λ k. getD (c .before .before .args .vals .now) k 0) (c .before .before .args .w) (length (c .before .before .args .vals .now)) (c .before .before .args .out .now) (c .before .before .args .at) (c .before .before .pre .2)
 
--- src/lib.rt:53:32
 shared-slice-read-push : tie.Need-shared-slice-read-push Inv-loop μ-loop
 shared-slice-read-push c = search needs
 
--- src/lib.rt:53:13
 push-requires : tie.Need-push-requires Inv-loop μ-loop
 push-requires c κs = (c .before .before .before .before .before .pre .0, small (λ k. getD (c .before .before .before .before .before .args .vals .now) k 0) (c .before .before .before .before .before .args .w) (length (c .before .before .before .before .before .args .vals .now)) (c .before .before .before .before .before .args .out .now) (c .before .before .before .before .before .args .at) (c .before .before .before .before .before .pre .2) (c .before .before .loop .out) (c .before .before .loop .acc) (c .before .before .loop .r) (c .before .before .loop .q) (c .before .before .loop .i) (c .before .before .loop .inv))
 
--- src/lib.rt:54:20
 add-have : tie.Need-add-have Inv-loop μ-loop
 add-have c = omega (arith, c .before .before .before .loop .inv .few, c .before .before .before .before .before .before .pre .0)
 
--- src/lib.rt:60:27
 high-byte-requires : tie.Need-high-byte-requires Inv-loop μ-loop
 high-byte-requires c κs = (omega (arith, c .before .before .before .before .loop .inv .few, c .before .before .before .before .before .before .before .pre .0, c .if1 .left), byte-lt (λ k. getD (c .before .before .before .before .before .before .before .args .vals .now) k 0) (c .before .before .before .before .before .before .before .args .w) (length (c .before .before .before .before .before .before .before .args .vals .now)) (c .before .before .before .before .before .before .before .args .out .now) (c .before .before .before .before .before .before .before .args .at) (c .before .before .before .before .before .before .before .pre .2) (c .before .before .before .before .loop .out) (c .before .before .before .before .loop .acc) (c .before .before .before .before .loop .r) (c .before .before .before .before .loop .q) (c .before .before .before .before .loop .i) (c .before .before .before .before .loop .inv) (c .before .push .result) (c .before .before .before .loop-test .taken) (c .before .push .ensures) (c .if1 .left) (c .before .before .before .before .before .before .before .pre .0))
 
--- src/lib.rt:60:17
 add-out : tie.Need-add-out Inv-loop μ-loop
 add-out c = omega (arith, at-fits (λ k. getD (c .before .before .before .before .before .before .before .before .args .vals .now) k 0) (c .before .before .before .before .before .before .before .before .args .w) (length (c .before .before .before .before .before .before .before .before .args .vals .now)) (c .before .before .before .before .before .before .before .before .args .out .now) (c .before .before .before .before .before .before .before .before .args .at) (c .before .before .before .before .before .before .before .before .pre .2) (c .before .before .before .before .before .loop .out) (c .before .before .before .before .before .loop .acc) (c .before .before .before .before .before .loop .r) (c .before .before .before .before .before .loop .q) (c .before .before .before .before .before .loop .i) (c .before .before .before .before .before .loop .inv) (c .before .before .push .result) (c .before .before .before .before .loop-test .taken) (c .before .before .push .ensures) (c .before .if1 .left) (c .before .before .before .before .before .before .before .before .pre .0), long (λ k. getD (c .before .before .before .before .before .before .before .before .args .vals .now) k 0) (c .before .before .before .before .before .before .before .before .args .w) (length (c .before .before .before .before .before .before .before .before .args .vals .now)) (c .before .before .before .before .before .before .before .before .args .out .now) (c .before .before .before .before .before .before .before .before .args .at) (c .before .before .before .before .before .before .before .before .pre .2) (c .before .before .before .before .before .loop .out) (c .before .before .before .before .before .loop .acc) (c .before .before .before .before .before .loop .r) (c .before .before .before .before .before .loop .q) (c .before .before .before .before .before .loop .i) (c .before .before .before .before .before .loop .inv))
 
--- src/lib.rt:60:13
 slice-write-out : tie.Need-slice-write-out Inv-loop μ-loop
 slice-write-out c = at-fits (λ k. getD (c .before .before .before .before .before .before .before .before .args .vals .now) k 0) (c .before .before .before .before .before .before .before .before .args .w) (length (c .before .before .before .before .before .before .before .before .args .vals .now)) (c .before .before .before .before .before .before .before .before .args .out .now) (c .before .before .before .before .before .before .before .before .args .at) (c .before .before .before .before .before .before .before .before .pre .2) (c .before .before .before .before .before .loop .out) (c .before .before .before .before .before .loop .acc) (c .before .before .before .before .before .loop .r) (c .before .before .before .before .before .loop .q) (c .before .before .before .before .before .loop .i) (c .before .before .before .before .before .loop .inv) (c .before .before .push .result) (c .before .before .before .before .loop-test .taken) (c .before .before .push .ensures) (c .before .if1 .left) (c .before .before .before .before .before .before .before .before .pre .0)
 
--- src/lib.rt:61:13
 low-bits-requires : tie.Need-low-bits-requires Inv-loop μ-loop
 low-bits-requires c κs = omega (arith, c .before .before .before .before .before .loop .inv .few, c .before .before .before .before .before .before .before .before .pre .0, c .before .if1 .left)
 
--- src/lib.rt:62:13
 add-q : tie.Need-add-q Inv-loop μ-loop
 add-q c = omega (arith, at-fits (λ k. getD (c .before .before .before .before .before .before .before .before .before .args .vals .now) k 0) (c .before .before .before .before .before .before .before .before .before .args .w) (length (c .before .before .before .before .before .before .before .before .before .args .vals .now)) (c .before .before .before .before .before .before .before .before .before .args .out .now) (c .before .before .before .before .before .before .before .before .before .args .at) (c .before .before .before .before .before .before .before .before .before .pre .2) (c .before .before .before .before .before .before .loop .out) (c .before .before .before .before .before .before .loop .acc) (c .before .before .before .before .before .before .loop .r) (c .before .before .before .before .before .before .loop .q) (c .before .before .before .before .before .before .loop .i) (c .before .before .before .before .before .before .loop .inv) (c .before .before .before .push .result) (c .before .before .before .before .before .loop-test .taken) (c .before .before .before .push .ensures) (c .before .before .if1 .left) (c .before .before .before .before .before .before .before .before .before .pre .0), long (λ k. getD (c .before .before .before .before .before .before .before .before .before .args .vals .now) k 0) (c .before .before .before .before .before .before .before .before .before .args .w) (length (c .before .before .before .before .before .before .before .before .before .args .vals .now)) (c .before .before .before .before .before .before .before .before .before .args .out .now) (c .before .before .before .before .before .before .before .before .before .args .at) (c .before .before .before .before .before .before .before .before .before .pre .2) (c .before .before .before .before .before .before .loop .out) (c .before .before .before .before .before .before .loop .acc) (c .before .before .before .before .before .before .loop .r) (c .before .before .before .before .before .before .loop .q) (c .before .before .before .before .before .before .loop .i) (c .before .before .before .before .before .before .loop .inv))
 
--- src/lib.rt:64:9
 add-i : tie.Need-add-i Inv-loop μ-loop
 add-i c = search needs
 
--- src/lib.rt:52:5
 loop-less : tie.Need-loop-less Inv-loop μ-loop
 loop-less c = search needs
 
--- src/lib.rt:52:5
 loop-again : tie.Need-loop-again Inv-loop μ-loop
 loop-again c =
     let s = c .before .before .before .before .before .before .before in
@@ -80,36 +60,28 @@ loop-again c =
     (λ w. rw (w .3, w .4, w .5, w .6) (emit (λ k. getD (s .args .vals .now) k 0) (s .args .w) (length (s .args .vals .now)) (s .args .out .now) (s .args .at) (s .pre .2) (l .out) (l .acc) (l .r) (l .q) (l .i) (l .inv) (p .result) h (p .ensures) (w .0 .left) (s .pre .0) (w .1 .result) (w .2 .result) (w .1 .ensures) (w .2 .ensures)))
     (c .if1 .came)
 
--- src/lib.rt:67:9
 same-length : tie.Need-same-length Inv-loop μ-loop
 same-length c = long (λ k. getD (c .before .before .before .before .before .args .vals .now) k 0) (c .before .before .before .before .before .args .w) (length (c .before .before .before .before .before .args .vals .now)) (c .before .before .before .before .before .args .out .now) (c .before .before .before .before .before .args .at) (c .before .before .before .before .before .pre .2) (c .before .before .loop .out) (c .before .before .loop .acc) (c .before .before .loop .r) (c .before .before .loop .q) (c .before .before .loop .i) (c .before .before .loop .inv)
 
--- src/lib.rt:67:9
 returns : tie.Need-returns Inv-loop μ-loop
 returns c = full (λ k. getD (c .before .before .before .before .before .args .vals .now) k 0) (c .before .before .before .before .before .args .w) (length (c .before .before .before .before .before .args .vals .now)) (c .before .before .before .before .before .args .out .now) (c .before .before .before .before .before .args .at) (c .before .before .before .before .before .pre .2) (c .before .before .loop .out) (c .before .before .loop .acc) (c .before .before .loop .r) (c .before .before .loop .q) (c .before .before .loop .i) (c .before .before .loop .inv) (c .before .loop-test .left) (c .if2 .taken)
 
--- src/lib.rt:69:19
 last-byte-requires : tie.Need-last-byte-requires Inv-loop μ-loop
 last-byte-requires c κs = (omega (arith, c .if2 .left), c .before .before .loop .inv .few, last-lt (λ k. getD (c .before .before .before .before .before .args .vals .now) k 0) (c .before .before .before .before .before .args .w) (length (c .before .before .before .before .before .args .vals .now)) (c .before .before .before .before .before .args .out .now) (c .before .before .before .before .before .args .at) (c .before .before .before .before .before .pre .2) (c .before .before .loop .out) (c .before .before .loop .acc) (c .before .before .loop .r) (c .before .before .loop .q) (c .before .before .loop .i) (c .before .before .loop .inv) (c .before .loop-test .left) (omega (arith, c .if2 .left)))
 
--- src/lib.rt:69:9
 add-out-2 : tie.Need-add-out-2 Inv-loop μ-loop
 add-out-2 c = omega (arith, last-fits (λ k. getD (c .before .before .before .before .before .before .args .vals .now) k 0) (c .before .before .before .before .before .before .args .w) (length (c .before .before .before .before .before .before .args .vals .now)) (c .before .before .before .before .before .before .args .out .now) (c .before .before .before .before .before .before .args .at) (c .before .before .before .before .before .before .pre .2) (c .before .before .before .loop .out) (c .before .before .before .loop .acc) (c .before .before .before .loop .r) (c .before .before .before .loop .q) (c .before .before .before .loop .i) (c .before .before .before .loop .inv) (c .before .before .loop-test .left) (omega (arith, c .before .if2 .left)), long (λ k. getD (c .before .before .before .before .before .before .args .vals .now) k 0) (c .before .before .before .before .before .before .args .w) (length (c .before .before .before .before .before .before .args .vals .now)) (c .before .before .before .before .before .before .args .out .now) (c .before .before .before .before .before .before .args .at) (c .before .before .before .before .before .before .pre .2) (c .before .before .before .loop .out) (c .before .before .before .loop .acc) (c .before .before .before .loop .r) (c .before .before .before .loop .q) (c .before .before .before .loop .i) (c .before .before .before .loop .inv))
 
--- src/lib.rt:69:5
 slice-write-out-2 : tie.Need-slice-write-out-2 Inv-loop μ-loop
 slice-write-out-2 c = last-fits (λ k. getD (c .before .before .before .before .before .before .args .vals .now) k 0) (c .before .before .before .before .before .before .args .w) (length (c .before .before .before .before .before .before .args .vals .now)) (c .before .before .before .before .before .before .args .out .now) (c .before .before .before .before .before .before .args .at) (c .before .before .before .before .before .before .pre .2) (c .before .before .before .loop .out) (c .before .before .before .loop .acc) (c .before .before .before .loop .r) (c .before .before .before .loop .q) (c .before .before .before .loop .i) (c .before .before .before .loop .inv) (c .before .before .loop-test .left) (omega (arith, c .before .if2 .left))
 
--- src/lib.rt:70:5
 add-result : tie.Need-add-result Inv-loop μ-loop
 add-result c = omega (arith, last-fits (λ k. getD (c .before .before .before .before .before .before .args .vals .now) k 0) (c .before .before .before .before .before .before .args .w) (length (c .before .before .before .before .before .before .args .vals .now)) (c .before .before .before .before .before .before .args .out .now) (c .before .before .before .before .before .before .args .at) (c .before .before .before .before .before .before .pre .2) (c .before .before .before .loop .out) (c .before .before .before .loop .acc) (c .before .before .before .loop .r) (c .before .before .before .loop .q) (c .before .before .before .loop .i) (c .before .before .before .loop .inv) (c .before .before .loop-test .left) (omega (arith, c .before .if2 .left)), long (λ k. getD (c .before .before .before .before .before .before .args .vals .now) k 0) (c .before .before .before .before .before .before .args .w) (length (c .before .before .before .before .before .before .args .vals .now)) (c .before .before .before .before .before .before .args .out .now) (c .before .before .before .before .before .before .args .at) (c .before .before .before .before .before .before .pre .2) (c .before .before .before .loop .out) (c .before .before .before .loop .acc) (c .before .before .before .loop .r) (c .before .before .before .loop .q) (c .before .before .before .loop .i) (c .before .before .before .loop .inv))
 
--- src/lib.rt:44:1
 same-length-2 : tie.Need-same-length-2 Inv-loop μ-loop
 same-length-2 c =
     (simp length-set) ∙ long (λ k. getD (c .before .before .before .before .before .before .args .vals .now) k 0) (c .before .before .before .before .before .before .args .w) (length (c .before .before .before .before .before .before .args .vals .now)) (c .before .before .before .before .before .before .args .out .now) (c .before .before .before .before .before .before .args .at) (c .before .before .before .before .before .before .pre .2) (c .before .before .before .loop .out) (c .before .before .before .loop .acc) (c .before .before .before .loop .r) (c .before .before .before .loop .q) (c .before .before .before .loop .i) (c .before .before .before .loop .inv)
 
--- src/lib.rt:44:1
 returns-2 : tie.Need-returns-2 Inv-loop μ-loop
 returns-2 c = closed (λ k. getD (c .before .before .before .before .before .before .args .vals .now) k 0) (c .before .before .before .before .before .before .args .w) (length (c .before .before .before .before .before .before .args .vals .now)) (c .before .before .before .before .before .before .args .out .now) (c .before .before .before .before .before .before .args .at) (c .before .before .before .before .before .before .pre .2) (c .before .before .before .loop .out) (c .before .before .before .loop .acc) (c .before .before .before .loop .r) (c .before .before .before .loop .q) (c .before .before .before .loop .i) (c .before .before .before .loop .inv) (c .before .before .loop-test .left) (omega (arith, c .before .if2 .left)) (c .last-byte .result) (c .last-byte .ensures)
 

@@ -1,40 +1,32 @@
+-- The last position of a rising list is its largest.
+-- Assumes nothing.
 use Rattle.common.proofs.Lists.{rising-range}
 use Rattle.bitmap_write.proofs.Runs.{count-none, count-last}
-use mathlib.Core.Path.{_≡_, refl, sym, ap, _∙_}
-use Prim.Native.Nat.{ℕ, zero, suc, _+_, _-_, _*_, _≤_, _<_}
+use Prim.Native.Nat.{_-_}
 use native.Mathlib.Omega.{arith}
-use lib.ListN.{length, getD}
+use lib.ListN.{length}
 use borrow.Author.Needs.{needs}
 use Rattle.bitmap_write.proofs.count_of.Statement.{statement}
 use Rattle.bitmap_write.proofs.count_of.Tie as tie
-use Rattle.bitmap_write.proofs.count_of.Reads as reads
-use Rattle.bitmap_write.proofs.count_of.Lts as lts
 
--- src/lib.rt:58:9
 returns : tie.Need-returns
 returns c = (count-none (c .before .args .ps .now) (c .if1 .taken), omega arith)
 
--- src/lib.rt:60:9
 sub-result : tie.Need-sub-result
 sub-result c = search needs
 
--- src/lib.rt:60:6
 mul-result : tie.Need-mul-result
 mul-result c = search needs
 
--- src/lib.rt:60:6
 shared-slice-read-result : tie.Need-shared-slice-read-result
 shared-slice-read-result c = search needs
 
--- src/lib.rt:60:5
 cast-result : tie.Need-cast-result
 cast-result c = let r = rising-range 2097152 0 (c .before .before .args .ps .now) (length (c .before .before .args .ps .now) - 1) (c .before .before .pre) (omega (arith, c .before .if1 .left)) in omega (arith, r .1)
 
--- src/lib.rt:60:5
 add-result : tie.Need-add-result
 add-result c = let r = rising-range 2097152 0 (c .before .before .args .ps .now) (length (c .before .before .args .ps .now) - 1) (c .before .before .pre) (omega (arith, c .before .if1 .left)) in omega (arith, r .1)
 
--- src/lib.rt:52:1
 returns-2 : tie.Need-returns-2
 returns-2 c = let r = rising-range 2097152 0 (c .before .before .args .ps .now) (length (c .before .before .args .ps .now) - 1) (c .before .before .pre) (omega (arith, c .before .if1 .left)) in (count-last (c .before .before .args .ps .now) (c .before .before .pre) (omega (arith, c .before .if1 .left)), omega (arith, r .1))
 

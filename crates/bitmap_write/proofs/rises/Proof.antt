@@ -1,18 +1,15 @@
-use mathlib.Core.List.{List, []}
-use mathlib.Core.Bool.{true, false}
-use Prim.Native.Nat.{_/_, _%_, _^_}
-use lib.ListN.{take, drop, set, length-set}
-use Rattle.common.specs.Lists.{rising, mem}
+-- The invariant: the test of what is left, from lo on, is the test of the list.
+-- Assumes nothing.
+use lib.ListN.{drop}
+use Rattle.common.specs.Lists.{rising}
 use Rattle.bitmap_write.proofs.Runs.{rise-low, rise-high, rise-on, rise-end}
 use Rattle.bitmap_write.proofs.rises.Statement.{statement}
 use borrow.Author.Needs.{needs}
-use mathlib.Core.Path.{_≡_, refl, sym, ap, _∙_}
-use Prim.Native.Nat.{ℕ, zero, suc, _+_, _-_, _*_, _≤_, _<_}
+use mathlib.Core.Path.{_≡_, refl, _∙_}
+use Prim.Native.Nat.{_-_, _≤_}
 use native.Mathlib.Omega.{arith}
-use lib.ListN.{length, getD}
+use lib.ListN.{length}
 use Rattle.bitmap_write.proofs.rises.Tie as tie
-use Rattle.bitmap_write.proofs.rises.Reads as reads
-use Rattle.bitmap_write.proofs.rises.Lts as lts
 
 abbrev Inv-loop : tie.InvT-loop
 Inv-loop ps lo₀ i₀ lo i = (i ≤ length ps) × (rising 2097152 lo (drop i ps) ≡ rising 2097152 0 ps)
@@ -20,43 +17,33 @@ Inv-loop ps lo₀ i₀ lo i = (i ≤ length ps) × (rising 2097152 lo (drop i ps
 abbrev μ-loop : tie.MeasureT-loop
 μ-loop ps lo₀ i₀ lo i = length ps - i
 
--- src/lib.rt:19:5
 loop-holds : tie.Need-loop-holds Inv-loop μ-loop
 loop-holds c = (omega arith, refl)
 
--- src/lib.rt:20:17
 mul-x : tie.Need-mul-x Inv-loop μ-loop
 mul-x c = search needs
 
--- src/lib.rt:20:17
 shared-slice-read-x : tie.Need-shared-slice-read-x Inv-loop μ-loop
 shared-slice-read-x c = omega arith
 
--- src/lib.rt:22:13
 returns : tie.Need-returns Inv-loop μ-loop
 returns c = rise-low (c .before .before .before .loop .lo) (c .before .before .before .loop .i) (c .before .before .before .before .args .ps .now) (c .before .before .loop-test .taken) (c .if1 .taken) ∙ c .before .before .before .loop .inv .1
 
--- src/lib.rt:25:13
 returns-2 : tie.Need-returns-2 Inv-loop μ-loop
 returns-2 c = rise-high (c .before .before .before .before .loop .lo) (c .before .before .before .before .loop .i) (c .before .before .before .before .before .args .ps .now) (c .before .before .before .loop-test .taken) (c .before .if1 .left) (c .if2 .taken) ∙ c .before .before .before .before .loop .inv .1
 
--- src/lib.rt:27:14
 add-lo : tie.Need-add-lo Inv-loop μ-loop
 add-lo c = omega (arith, c .if2 .left)
 
--- src/lib.rt:28:9
 add-i : tie.Need-add-i Inv-loop μ-loop
 add-i c = omega arith
 
--- src/lib.rt:19:5
 loop-less : tie.Need-loop-less Inv-loop μ-loop
 loop-less c = omega arith
 
--- src/lib.rt:19:5
 loop-again : tie.Need-loop-again Inv-loop μ-loop
 loop-again c = (omega arith, rise-on (c .before .before .before .before .loop .lo) (c .before .before .before .before .loop .i) (c .before .before .before .before .before .args .ps .now) (c .before .before .before .loop-test .taken) (c .before .if1 .left) (c .if2 .left) ∙ c .before .before .before .before .loop .inv .1)
 
--- src/lib.rt:14:1
 returns-3 : tie.Need-returns-3 Inv-loop μ-loop
 returns-3 c = rise-end (c .before .loop .lo) (c .before .loop .i) (c .before .before .args .ps .now) (c .loop-test .left) ∙ c .before .loop .inv .1
 

@@ -1,15 +1,14 @@
+-- The invariant: every position passed is below b.
+-- Assumes nothing.
 use mathlib.Core.Logic.{⊎-elim}
-use native.Mathlib.Nat.{eq-or-lt-of-le}
 use Rattle.bitmap_spec.proofs.Window.{below-or}
 use borrow.Author.Needs.{needs}
-use mathlib.Core.Path.{_≡_, refl, sym, ap, _∙_}
-use Prim.Native.Nat.{ℕ, zero, suc, _+_, _-_, _*_, _≤_, _<_}
+use mathlib.Core.Path.{_≡_}
+use Prim.Native.Nat.{ℕ, _-_, _≤_, _<_}
 use native.Mathlib.Omega.{arith}
 use lib.ListN.{length, getD}
 use Rattle.bitmap_write.proofs.run_end.Statement.{statement}
 use Rattle.bitmap_write.proofs.run_end.Tie as tie
-use Rattle.bitmap_write.proofs.run_end.Reads as reads
-use Rattle.bitmap_write.proofs.run_end.Lts as lts
 
 abbrev Inv-loop : tie.InvT-loop
 Inv-loop ps i b j₀ j = (i ≤ j) × (j ≤ length ps) × ((t : ℕ) → i ≤ t → t < j → getD ps t 0 < b)
@@ -17,35 +16,27 @@ Inv-loop ps i b j₀ j = (i ≤ j) × (j ≤ length ps) × ((t : ℕ) → i ≤ 
 abbrev μ-loop : tie.MeasureT-loop
 μ-loop ps i b j₀ j = length ps - j
 
--- src/lib.rt:42:5
 loop-holds : tie.Need-loop-holds Inv-loop μ-loop
 loop-holds c = (omega arith, c .pre, λ t l m. absurd (omega arith))
 
--- src/lib.rt:43:17
 mul-if1 : tie.Need-mul-if1 Inv-loop μ-loop
 mul-if1 c = search needs
 
--- src/lib.rt:43:17
 shared-slice-read-if1 : tie.Need-shared-slice-read-if1 Inv-loop μ-loop
 shared-slice-read-if1 c = search needs
 
--- src/lib.rt:44:13
 returns : tie.Need-returns Inv-loop μ-loop
 returns c = record { order = c .before .before .before .loop .inv .0; within = c .before .before .before .loop .inv .1; under = c .before .before .before .loop .inv .2; over = λ l. c .if1 .taken }
 
--- src/lib.rt:46:9
 add-j : tie.Need-add-j Inv-loop μ-loop
 add-j c = search needs
 
--- src/lib.rt:42:5
 loop-less : tie.Need-loop-less Inv-loop μ-loop
 loop-less c = search needs
 
--- src/lib.rt:42:5
 loop-again : tie.Need-loop-again Inv-loop μ-loop
 loop-again c = (omega arith, omega arith, λ t l m. ⊎-elim (λ g. c .before .before .before .loop .inv .2 t l g) (λ g. let e : c .before .before .before .loop .j ≡ t = omega arith in rw (← e) (c .if1 .left)) (below-or t (c .before .before .before .loop .j)))
 
--- src/lib.rt:37:1
 returns-2 : tie.Need-returns-2 Inv-loop μ-loop
 returns-2 c = record { order = c .before .loop .inv .0; within = c .before .loop .inv .1; under = c .before .loop .inv .2; over = λ l. absurd (omega (arith, c .loop-test .left)) }
 

@@ -1,46 +1,35 @@
-use mathlib.Core.Path.{_≡_, refl, sym, ap, _∙_}
-use Prim.Native.Nat.{ℕ, zero, suc, _+_, _-_, _*_, _≤_, _<_}
-use native.Mathlib.Omega.{arith}
-use lib.ListN.{length, getD}
+-- The definition, case by case.
+-- Assumes nothing.
+use Prim.Native.Nat.{_-_}
 use borrow.Author.Needs.{needs}
 use Rattle.blocks.proofs.byte.Statement.{statement}
 use Rattle.blocks.specs.Block.{byteOf}
 use Rattle.blocks.proofs.byte.Tie as tie
-use Rattle.blocks.proofs.byte.Reads as reads
-use Rattle.blocks.proofs.byte.Lts as lts
 
--- src/lib.rt:19:22
 enum-told : tie.Need-enum-told
 enum-told c = search needs
 
--- src/lib.rt:20:29
 enum-told-2 : tie.Need-enum-told-2
 enum-told-2 c = search needs
 
--- src/lib.rt:21:32
 enum-told-3 : tie.Need-enum-told-3
 enum-told-3 c = search needs
 
--- src/lib.rt:22:23
 enum-told-4 : tie.Need-enum-told-4
 enum-told-4 c = search needs
 
--- src/lib.rt:15:1
 returns : tie.Need-returns
 unfolding byteOf
 returns c = rw (c .enum-told .given .1)
 
--- src/lib.rt:15:1
 returns-2 : tie.Need-returns-2
 unfolding byteOf
 returns-2 c = rw (c .enum-told2 .given .1)
 
--- src/lib.rt:15:1
 returns-3 : tie.Need-returns-3
 unfolding byteOf
 returns-3 c = rw (c .enum-told3 .given .1)
 
--- src/lib.rt:15:1
 returns-4 : tie.Need-returns-4
 unfolding byteOf
 returns-4 c = rw (c .enum-told4 .given .1)

@@ -1,20 +1,18 @@
+-- The invariant: each byte passed is joined; a byte joined is its bits joined.
+-- Assumes nothing.
 use borrow.Author.Needs.{needs}
-use mathlib.Core.Path.{_≡_, refl, sym, ap, _∙_}
-use Prim.Native.Nat.{ℕ, zero, suc, _+_, _-_, _*_, _≤_, _<_}
+use mathlib.Core.Path.{_≡_, refl}
+use Prim.Native.Nat.{ℕ, _-_, _≤_, _<_}
 use native.Mathlib.Omega.{arith}
 use lib.ListN.{length, getD}
-use borrow.Author.Count.{below-none, below-more}
+use borrow.Author.Count.{below-none}
 use lib.ListN.{length-set}
-use lib.Seq.{getD-set-same, getD-set-other}
 use Rattle.blocks.proofs.Digits.{joined-is, set-more}
 use Rattle.blocks.proofs.join.Statement.{statement}
 use Rattle.blocks.specs.Block.{byteOf}
 use mir.Val.{Fits}
 use mir.Syntax.{w8}
 use Rattle.blocks.proofs.join.Tie as tie
-use Rattle.blocks.proofs.join.Reads as reads
-use Rattle.blocks.proofs.join.Lts as lts
-use Rattle.blocks.proofs.byte.Reads as byte-reads
 
 abbrev Inv-loop : tie.InvT-loop
 Inv-loop o a b r₀ i₀ r i = (i ≤ 32) × (length r ≡ 32) × ((k : ℕ) → k < i → getD r k 0 ≡ byteOf o (getD a k 0) (getD b k 0))
@@ -22,42 +20,33 @@ Inv-loop o a b r₀ i₀ r i = (i ≤ 32) × (length r ≡ 32) × ((k : ℕ) →
 abbrev μ-loop : tie.MeasureT-loop
 μ-loop o a b r₀ i₀ r i = 32 - i
 
--- src/lib.rt:32:5
 loop-holds : tie.Need-loop-holds Inv-loop μ-loop
 loop-holds c = (omega arith, refl, below-none _)
 
--- src/lib.rt:33:17
 array-read-x : tie.Need-array-read-x Inv-loop μ-loop
 array-read-x c = search needs
 
--- src/lib.rt:34:17
 array-read-y : tie.Need-array-read-y Inv-loop μ-loop
 array-read-y c = search needs
 
--- src/lib.rt:35:16
 byte-requires : tie.Need-byte-requires Inv-loop μ-loop
 byte-requires c κs = search needs
 
--- src/lib.rt:35:9
 array-write-r : tie.Need-array-write-r Inv-loop μ-loop
 array-write-r c = search needs
 
--- src/lib.rt:36:9
 add-i : tie.Need-add-i Inv-loop μ-loop
 add-i c = search needs
 
--- src/lib.rt:32:5
 loop-less : tie.Need-loop-less Inv-loop μ-loop
 loop-less c = search needs
 
--- src/lib.rt:32:5
 loop-again : tie.Need-loop-again Inv-loop μ-loop
 loop-again c =
     let a = c .before .before .before .args in
     let l = c .before .before .loop in
     (omega arith, simp length-set (l .inv .1), set-more (λ k. byteOf (a .o) (getD (a .t2) k 0) (getD (a .t3) k 0)) (l .r) (l .i) _ (omega arith) (c .byte .ensures) (l .inv .2))
 
--- src/lib.rt:27:1
 returns : tie.Need-returns Inv-loop μ-loop
 returns c =
     let a = c .before .before .args in

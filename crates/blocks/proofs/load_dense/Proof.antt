@@ -1,18 +1,18 @@
+-- The invariant: the bytes passed are copied; a copied block has the bits of the container.
+-- Assumes nothing.
 use borrow.Author.Count.{below-none, below-more}
-use lib.ListN.{length-set, set}
+use lib.ListN.{length-set}
 use borrow.Author.Count.{below-none}
 use lib.ListN.{length-set}
 use Rattle.blocks.proofs.Blocks.{copied}
 use Rattle.blocks.proofs.Digits.{set-more}
 use borrow.Author.Needs.{needs}
-use mathlib.Core.Path.{_≡_, refl, sym, ap, _∙_}
-use Prim.Native.Nat.{ℕ, zero, suc, _+_, _-_, _*_, _≤_, _<_}
+use mathlib.Core.Path.{_≡_, refl}
+use Prim.Native.Nat.{ℕ, _+_, _-_, _≤_, _<_}
 use native.Mathlib.Omega.{arith}
 use lib.ListN.{length, getD}
 use Rattle.blocks.proofs.load_dense.Statement.{statement}
 use Rattle.blocks.proofs.load_dense.Tie as tie
-use Rattle.blocks.proofs.load_dense.Reads as reads
-use Rattle.blocks.proofs.load_dense.Lts as lts
 
 abbrev Inv-loop : tie.InvT-loop
 Inv-loop s at b₀ i₀ b i = (i ≤ 32) × (length b ≡ 32) × ((k : ℕ) → k < i → getD b k 0 ≡ getD s (at + k) 0) × ((k : ℕ) → k < i → getD s (at + k) 0 < 256)
@@ -20,35 +20,27 @@ Inv-loop s at b₀ i₀ b i = (i ≤ 32) × (length b ≡ 32) × ((k : ℕ) → 
 abbrev μ-loop : tie.MeasureT-loop
 μ-loop s at b₀ i₀ b i = 32 - i
 
--- src/lib.rt:38:5
 loop-holds : tie.Need-loop-holds Inv-loop μ-loop
 loop-holds c = (omega arith, refl, below-none _, below-none _)
 
--- src/lib.rt:39:18
 add-b : tie.Need-add-b Inv-loop μ-loop
 add-b c = search needs
 
--- src/lib.rt:39:16
 shared-slice-read-b : tie.Need-shared-slice-read-b Inv-loop μ-loop
 shared-slice-read-b c = search needs
 
--- src/lib.rt:39:9
 array-write-b : tie.Need-array-write-b Inv-loop μ-loop
 array-write-b c = search needs
 
--- src/lib.rt:40:9
 add-i : tie.Need-add-i Inv-loop μ-loop
 add-i c = search needs
 
--- src/lib.rt:38:5
 loop-less : tie.Need-loop-less Inv-loop μ-loop
 loop-less c = search needs
 
--- src/lib.rt:38:5
 loop-again : tie.Need-loop-again Inv-loop μ-loop
 loop-again c = (omega arith, simp length-set (c .before .before .loop .inv .1), set-more (λ k. getD (c .before .before .before .args .s .now) (c .before .before .before .args .at + k) 0) (c .before .before .loop .b) (c .before .before .loop .i) _ (omega arith) refl (c .before .before .loop .inv .2), below-more _ _ (c .before .before .loop .inv .3) (omega (arith, c .shared-slice-known .given (c .before .before .before .args .at + c .before .before .loop .i))))
 
--- src/lib.rt:32:1
 returns : tie.Need-returns Inv-loop μ-loop
 returns c = copied (c .before .loop .b) (c .before .before .args .s .now) (c .before .before .args .at) (c .before .loop .inv .1) (λ k h. c .before .loop .inv .2 k (omega arith)) (λ k h. rw (c .before .loop .inv .2 k (omega arith)) (c .before .loop .inv .3 k (omega arith)))
 

@@ -1,18 +1,18 @@
-use lib.ListN.{take, set, length-set}
+-- The invariant: the bytes passed are written.
+-- Assumes nothing.
+use lib.ListN.{take, length-set}
 use lib.Seq.{take-all}
 use mathlib.Core.List.{List}
 use Rattle.bitmap_spec.specs.Output.{written}
 use Rattle.bitmap_laws.proofs.Output.{written-none}
 use Rattle.blocks.proofs.Blocks.{copy-turn}
 use borrow.Author.Needs.{needs}
-use mathlib.Core.Path.{_≡_, refl, sym, ap, _∙_}
-use Prim.Native.Nat.{ℕ, zero, suc, _+_, _-_, _*_, _≤_, _<_}
+use mathlib.Core.Path.{_≡_, refl, ap, _∙_}
+use Prim.Native.Nat.{ℕ, _-_, _≤_}
 use native.Mathlib.Omega.{arith}
-use lib.ListN.{length, getD}
+use lib.ListN.{length}
 use Rattle.blocks.proofs.put_bytes.Statement.{statement}
 use Rattle.blocks.proofs.put_bytes.Tie as tie
-use Rattle.blocks.proofs.put_bytes.Reads as reads
-use Rattle.blocks.proofs.put_bytes.Lts as lts
 
 abbrev Inv-loop : tie.InvT-loop
 Inv-loop out₀ at b i₀ out i = (i ≤ 32) × (length out ≡ length out₀) × (out ≡ written out₀ at (take i b))
@@ -20,39 +20,30 @@ Inv-loop out₀ at b i₀ out i = (i ≤ 32) × (length out ≡ length out₀) �
 abbrev μ-loop : tie.MeasureT-loop
 μ-loop out₀ at b i₀ out i = 32 - i
 
--- src/lib.rt:140:5
 loop-holds : tie.Need-loop-holds Inv-loop μ-loop
 loop-holds c = (omega arith, refl, written-none (c .args .out .now) (c .args .at))
 
--- src/lib.rt:141:23
 array-read-out : tie.Need-array-read-out Inv-loop μ-loop
 array-read-out c = search needs
 
--- src/lib.rt:141:13
 add-out : tie.Need-add-out Inv-loop μ-loop
 add-out c = search needs
 
--- src/lib.rt:141:9
 slice-write-out : tie.Need-slice-write-out Inv-loop μ-loop
 slice-write-out c = search needs
 
--- src/lib.rt:142:9
 add-i : tie.Need-add-i Inv-loop μ-loop
 add-i c = search needs
 
--- src/lib.rt:140:5
 loop-less : tie.Need-loop-less Inv-loop μ-loop
 loop-less c = search needs
 
--- src/lib.rt:140:5
 loop-again : tie.Need-loop-again Inv-loop μ-loop
 loop-again c = (omega arith, simp length-set (c .before .loop .inv .1), copy-turn (c .before .before .args .t1) (c .before .before .args .out .now) (c .before .loop .out) (c .before .before .args .at) (c .before .loop .i) _ (search needs) (c .loop-test .taken) (c .before .before .pre) refl (c .before .loop .inv .2))
 
--- src/lib.rt:135:1
 same-length : tie.Need-same-length Inv-loop μ-loop
 same-length c = c .before .loop .inv .1
 
--- src/lib.rt:135:1
 returns : tie.Need-returns Inv-loop μ-loop
 returns c = let n : length (c .before .before .args .t1) ≡ 32 = search needs in (refl, c .before .loop .inv .2 ∙ ap (λ (l : List ℕ). written (c .before .before .args .out .now) (c .before .before .args .at) l) (take-all (c .before .loop .i) (c .before .before .args .t1) (omega arith)))
 

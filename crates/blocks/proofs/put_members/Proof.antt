@@ -1,4 +1,5 @@
-use mathlib.Core.List.{List}
+-- The invariant (Along): the members of the words passed are written, and with those left they are all.
+-- Assumes nothing.
 use lib.ListN.{length-append}
 use Rattle.common.specs.Lists.{keep, from}
 use Rattle.bitmap_spec.specs.Judge.{dense}
@@ -6,15 +7,12 @@ use Rattle.bitmap_laws.proofs.Output.{Along, along-start, along-room, along-len
 use Rattle.blocks.specs.Block.{isSet}
 use Rattle.blocks.proofs.Members.{words-all, words-step, words-none}
 use borrow.Author.Needs.{needs}
-use mathlib.Core.Path.{_≡_, refl, sym, ap, _∙_}
-use Prim.Native.Nat.{ℕ, zero, suc, _+_, _-_, _*_, _≤_, _<_}
+use mathlib.Core.Path.{ap}
+use Prim.Native.Nat.{_+_, _-_, _*_, _≤_}
 use native.Mathlib.Omega.{arith}
-use lib.ListN.{length, getD}
+use lib.ListN.{length}
 use Rattle.blocks.proofs.put_members.Statement.{statement}
 use Rattle.blocks.proofs.put_members.Tie as tie
-use Rattle.blocks.proofs.put_members.Reads as reads
-use Rattle.blocks.proofs.put_members.Lts as lts
-use Rattle.blocks.proofs.put_word.Reads as put-word-reads
 
 abbrev Inv-loop : tie.InvT-loop
 Inv-loop b out₀ at n₀ q₀ out n q = (q ≤ 4) × Along out₀ out at n (keep (isSet b) (from (q * 64) (256 - q * 64))) (dense b 0)
@@ -22,39 +20,30 @@ Inv-loop b out₀ at n₀ q₀ out n q = (q ≤ 4) × Along out₀ out at n (kee
 abbrev μ-loop : tie.MeasureT-loop
 μ-loop b out₀ at n₀ q₀ out n q = 4 - q
 
--- src/lib.rt:127:5
 loop-holds : tie.Need-loop-holds Inv-loop μ-loop
 loop-holds c = (omega arith, along-start (c .before .args .out .now) (c .before .args .at) (dense (c .before .args .b) 0) _ (words-all (c .before .args .b)))
 
--- src/lib.rt:128:34
 add-put-word : tie.Need-add-put-word Inv-loop μ-loop
 add-put-word c = omega (arith, along-room (c .before .before .loop .inv .1), along-length (c .before .before .loop .inv .1) (c .before .before .before .before .pre))
 
--- src/lib.rt:128:14
 put-word-requires : tie.Need-put-word-requires Inv-loop μ-loop
 put-word-requires c κs = (c .before .loop-test .taken, omega (arith, along-room (c .before .before .loop .inv .1), along-length (c .before .before .loop .inv .1) (c .before .before .before .before .pre), ap length (words-step (c .before .before .before .before .args .b) (c .before .before .loop .q) (c .before .loop-test .taken)), length-append (keep (isSet (c .before .before .before .before .args .b)) (from (c .before .before .loop .q * 64) 64)) (keep (isSet (c .before .before .before .before .args .b)) (from ((c .before .before .loop .q + 1) * 64) (256 - (c .before .before .loop .q + 1) * 64)))))
 
--- src/lib.rt:128:9
 add-n : tie.Need-add-n Inv-loop μ-loop
 add-n c = omega (arith, along-room (c .before .before .before .before .before .loop .inv .1), along-length (c .before .before .before .before .before .loop .inv .1) (c .before .before .before .before .before .before .before .pre), ap length (words-step (c .before .before .before .before .before .before .before .args .b) (c .before .before .before .before .before .loop .q) (c .before .before .before .before .loop-test .taken)), length-append (keep (isSet (c .before .before .before .before .before .before .before .args .b)) (from (c .before .before .before .before .before .loop .q * 64) 64)) (keep (isSet (c .before .before .before .before .before .before .before .args .b)) (from ((c .before .before .before .before .before .loop .q + 1) * 64) (256 - (c .before .before .before .before .before .loop .q + 1) * 64))), c .before .before .put-word .ensures .0)
 
--- src/lib.rt:129:9
 add-q : tie.Need-add-q Inv-loop μ-loop
 add-q c = search needs
 
--- src/lib.rt:127:5
 loop-less : tie.Need-loop-less Inv-loop μ-loop
 loop-less c = search needs
 
--- src/lib.rt:127:5
 loop-again : tie.Need-loop-again Inv-loop μ-loop
 loop-again c = (omega arith, along-step _ (keep (isSet (c .before .before .before .before .before .before .before .args .b)) (from (c .before .before .before .before .before .loop .q * 64) 64)) _ (c .before .before .put-word .result) (c .before .before .before .before .before .loop .inv .1) (c .before .before .before .before .before .before .before .pre) (words-step (c .before .before .before .before .before .before .before .args .b) (c .before .before .before .before .before .loop .q) (c .before .before .before .before .loop-test .taken)) (c .before .before .put-word .ensures .1) (c .before .before .put-word .ensures .0))
 
--- src/lib.rt:121:1
 same-length : tie.Need-same-length Inv-loop μ-loop
 same-length c = along-length (c .before .loop .inv .1) (c .before .before .before .pre)
 
--- src/lib.rt:121:1
 returns : tie.Need-returns Inv-loop μ-loop
 returns c = along-end (c .before .loop .inv .1) (words-none (c .before .before .before .args .b) (c .before .loop .q) (c .loop-test .left))
 

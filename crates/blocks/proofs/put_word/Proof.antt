@@ -1,18 +1,17 @@
+-- The invariant (Word): the members before place p are written and x packs the bits left; its highest set bit is the next member.
+-- Assumes nothing.
 use mathlib.Core.List.{List}
 use Rattle.common.specs.Lists.{keep, from}
 use Rattle.bitmap_spec.specs.Bits.{bit, packed}
 use Rattle.blocks.specs.Block.{isSet}
-use Rattle.blocks.proofs.Members.{Word, Next, start, step, long, end}
+use Rattle.blocks.proofs.Members.{Word, start, step, long, end}
 use borrow.Author.Needs.{needs}
-use mathlib.Core.Path.{_≡_, refl, sym, ap, _∙_}
-use Prim.Native.Nat.{ℕ, zero, suc, _+_, _-_, _*_, _≤_, _<_}
+use mathlib.Core.Path.{_≡_, refl}
+use Prim.Native.Nat.{ℕ, _+_, _-_, _*_, _≤_}
 use native.Mathlib.Omega.{arith}
-use lib.ListN.{length, getD}
+use lib.ListN.{length}
 use Rattle.blocks.proofs.put_word.Statement.{statement}
 use Rattle.blocks.proofs.put_word.Tie as tie
-use Rattle.blocks.proofs.put_word.Reads as reads
-use Rattle.blocks.proofs.put_word.Lts as lts
-use Rattle.blocks.proofs.word.Reads as word-reads
 
 abbrev Inv-loop : tie.InvT-loop
 Inv-loop q out₀ at x₀ n₀ out x n = (b : List ℕ) → x₀ ≡ packed (bit b) (q * 64) 64 → at + length (keep (isSet b) (from (q * 64) 64)) ≤ length out₀ → (p : ℕ) × (w : ℕ) × Word b out₀ out at q x n p w
@@ -20,71 +19,54 @@ Inv-loop q out₀ at x₀ n₀ out x n = (b : List ℕ) → x₀ ≡ packed (bit
 abbrev μ-loop : tie.MeasureT-loop
 μ-loop q out₀ at x₀ n₀ out x n = x
 
--- src/lib.rt:109:9
 word-requires : tie.Need-word-requires Inv-loop μ-loop
 word-requires c κs = search needs
 
--- src/lib.rt:111:5
 loop-holds : tie.Need-loop-holds Inv-loop μ-loop
 loop-holds c = λ b e r. (c .before .before .args .q * 64, 64, start b (c .before .before .args .out .now) (c .before .before .args .at) (c .before .before .args .q) r (c .word .result) e)
 
--- src/lib.rt:113:24
 mul-out : tie.Need-mul-out Inv-loop μ-loop
 mul-out c = search needs
 
--- src/lib.rt:113:33
 cast-out : tie.Need-cast-out Inv-loop μ-loop
 cast-out c = let g = c .before .loop .inv (c .before .before .before .before .args .b) (c .before .before .word .ensures) (c .before .before .before .before .pre .1) in let s = step (c .before .before .before .before .args .b) (c .before .before .before .before .args .out .now) (c .before .before .before .before .args .at) (c .before .before .before .before .args .q) (c .before .before .before .before .pre .1) (c .before .loop .out) (c .before .loop .x) (c .before .loop .n) (g .0) (g .1) (g .2) (c .loop-test .taken) in omega (arith, s .small)
 
--- src/lib.rt:113:24
 add-out : tie.Need-add-out Inv-loop μ-loop
 add-out c = let g = c .before .loop .inv (c .before .before .before .before .args .b) (c .before .before .word .ensures) (c .before .before .before .before .pre .1) in let s = step (c .before .before .before .before .args .b) (c .before .before .before .before .args .out .now) (c .before .before .before .before .args .at) (c .before .before .before .before .args .q) (c .before .before .before .before .pre .1) (c .before .loop .out) (c .before .loop .x) (c .before .loop .n) (g .0) (g .1) (g .2) (c .loop-test .taken) in omega (arith, s .small)
 
--- src/lib.rt:113:23
 cast-out-2 : tie.Need-cast-out-2 Inv-loop μ-loop
 cast-out-2 c = let g = c .before .loop .inv (c .before .before .before .before .args .b) (c .before .before .word .ensures) (c .before .before .before .before .pre .1) in let s = step (c .before .before .before .before .args .b) (c .before .before .before .before .args .out .now) (c .before .before .before .before .args .at) (c .before .before .before .before .args .q) (c .before .before .before .before .pre .1) (c .before .loop .out) (c .before .loop .x) (c .before .loop .n) (g .0) (g .1) (g .2) (c .loop-test .taken) in omega (arith, s .small, c .before .before .before .before .pre .0)
 
--- src/lib.rt:113:13
 add-out-2 : tie.Need-add-out-2 Inv-loop μ-loop
 add-out-2 c = let g = c .before .loop .inv (c .before .before .before .before .args .b) (c .before .before .word .ensures) (c .before .before .before .before .pre .1) in let s = step (c .before .before .before .before .args .b) (c .before .before .before .before .args .out .now) (c .before .before .before .before .args .at) (c .before .before .before .before .args .q) (c .before .before .before .before .pre .1) (c .before .loop .out) (c .before .loop .x) (c .before .loop .n) (g .0) (g .1) (g .2) (c .loop-test .taken) in omega (arith, s .fits, long (c .before .before .before .before .args .b) (c .before .before .before .before .args .out .now) (c .before .before .before .before .args .at) (c .before .before .before .before .args .q) (c .before .before .before .before .pre .1) (c .before .loop .out) (c .before .loop .x) (c .before .loop .n) (g .0) (g .1) (g .2))
 
--- src/lib.rt:113:9
 slice-write-out : tie.Need-slice-write-out Inv-loop μ-loop
 slice-write-out c = let g = c .before .loop .inv (c .before .before .before .before .args .b) (c .before .before .word .ensures) (c .before .before .before .before .pre .1) in let s = step (c .before .before .before .before .args .b) (c .before .before .before .before .args .out .now) (c .before .before .before .before .args .at) (c .before .before .before .before .args .q) (c .before .before .before .before .pre .1) (c .before .loop .out) (c .before .loop .x) (c .before .loop .n) (g .0) (g .1) (g .2) (c .loop-test .taken) in s .fits
 
--- src/lib.rt:114:20
 sub-x : tie.Need-sub-x Inv-loop μ-loop
 sub-x c = let g = c .before .loop .inv (c .before .before .before .before .args .b) (c .before .before .word .ensures) (c .before .before .before .before .pre .1) in let s = step (c .before .before .before .before .args .b) (c .before .before .before .before .args .out .now) (c .before .before .before .before .args .at) (c .before .before .before .before .args .q) (c .before .before .before .before .pre .1) (c .before .loop .out) (c .before .loop .x) (c .before .loop .n) (g .0) (g .1) (g .2) (c .loop-test .taken) in omega (arith, s .small)
 
--- src/lib.rt:114:20
 cast-x : tie.Need-cast-x Inv-loop μ-loop
 cast-x c = search needs
 
--- src/lib.rt:114:14
 shl-x : tie.Need-shl-x Inv-loop μ-loop
 shl-x c = search needs
 
--- src/lib.rt:114:9
 sub-x-2 : tie.Need-sub-x-2 Inv-loop μ-loop
 sub-x-2 c = let g = c .before .loop .inv (c .before .before .before .before .args .b) (c .before .before .word .ensures) (c .before .before .before .before .pre .1) in let s = step (c .before .before .before .before .args .b) (c .before .before .before .before .args .out .now) (c .before .before .before .before .args .at) (c .before .before .before .before .args .q) (c .before .before .before .before .pre .1) (c .before .loop .out) (c .before .loop .x) (c .before .loop .n) (g .0) (g .1) (g .2) (c .loop-test .taken) in s .le
 
--- src/lib.rt:115:9
 add-n : tie.Need-add-n Inv-loop μ-loop
 add-n c = let g = c .before .loop .inv (c .before .before .before .before .args .b) (c .before .before .word .ensures) (c .before .before .before .before .pre .1) in let s = step (c .before .before .before .before .args .b) (c .before .before .before .before .args .out .now) (c .before .before .before .before .args .at) (c .before .before .before .before .args .q) (c .before .before .before .before .pre .1) (c .before .loop .out) (c .before .loop .x) (c .before .loop .n) (g .0) (g .1) (g .2) (c .loop-test .taken) in omega (arith, s .fits, long (c .before .before .before .before .args .b) (c .before .before .before .before .args .out .now) (c .before .before .before .before .args .at) (c .before .before .before .before .args .q) (c .before .before .before .before .pre .1) (c .before .loop .out) (c .before .loop .x) (c .before .loop .n) (g .0) (g .1) (g .2))
 
--- src/lib.rt:111:5
 loop-less : tie.Need-loop-less Inv-loop μ-loop
 loop-less c = let g = c .before .loop .inv (c .before .before .before .before .args .b) (c .before .before .word .ensures) (c .before .before .before .before .pre .1) in let s = step (c .before .before .before .before .args .b) (c .before .before .before .before .args .out .now) (c .before .before .before .before .args .at) (c .before .before .before .before .args .q) (c .before .before .before .before .pre .1) (c .before .loop .out) (c .before .loop .x) (c .before .loop .n) (g .0) (g .1) (g .2) (c .loop-test .taken) in omega (arith, s .le, s .pos, c .loop-test .taken)
 
--- src/lib.rt:111:5
 loop-again : tie.Need-loop-again Inv-loop μ-loop
 loop-again c = λ b e r. let g = c .before .loop .inv b e r in let s = step b (c .before .before .before .before .args .out .now) (c .before .before .before .before .args .at) (c .before .before .before .before .args .q) r (c .before .loop .out) (c .before .loop .x) (c .before .loop .n) (g .0) (g .1) (g .2) (c .loop-test .taken) in s .again _ refl
 
--- src/lib.rt:105:1
 same-length : tie.Need-same-length Inv-loop μ-loop
 same-length c = let g = c .before .loop .inv (c .before .before .before .before .args .b) (c .before .before .word .ensures) (c .before .before .before .before .pre .1) in long (c .before .before .before .before .args .b) (c .before .before .before .before .args .out .now) (c .before .before .before .before .args .at) (c .before .before .before .before .args .q) (c .before .before .before .before .pre .1) (c .before .loop .out) (c .before .loop .x) (c .before .loop .n) (g .0) (g .1) (g .2)
 
--- src/lib.rt:105:1
 returns : tie.Need-returns Inv-loop μ-loop
 returns c = let g = c .before .loop .inv (c .before .before .before .before .args .b) (c .before .before .word .ensures) (c .before .before .before .before .pre .1) in end (c .before .before .before .before .args .b) (c .before .before .before .before .args .out .now) (c .before .before .before .before .args .at) (c .before .before .before .before .args .q) (c .before .before .before .before .pre .1) (c .before .loop .out) (c .before .loop .x) (c .before .loop .n) (g .0) (g .1) (g .2) (c .loop-test .left)
 

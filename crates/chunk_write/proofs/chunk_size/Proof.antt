@@ -1,49 +1,34 @@
-use mathlib.Core.List.{List, map}
-use lib.ListN.{take, length-map}
-use Prim.Native.Nat.{_/_, _%_, _^_}
-use Rattle.common.specs.Bytes.{ceil8}
-use Rattle.bitmap_spec.proofs.Parts.{prod}
-use Rattle.bitmap_spec.specs.Form.{wider, width, largest, cheapest, least, writeChunk}
-use Rattle.bitmap_spec.specs.Output.{written}
-use Rattle.bitmap_laws.proofs.Length.{sizeAt, chunk-size}
+-- The values less the least, and their size, is the length of the written chunk.
+-- Assumes nothing.
+use mathlib.Core.List.{map}
+use lib.ListN.{length-map}
+use Rattle.bitmap_laws.proofs.Length.{chunk-size}
 use Rattle.bitmap_laws.proofs.Values.{least-at}
-use Rattle.chunk_parts.specs.Kept.{offsets}
-use Rattle.chunk_write.proofs.Laying.{size-is, chunk-is, chosen, wide-many, wide-few, whole-chunk, whole-size, whole-narrow, whole-zero}
+use Rattle.chunk_write.proofs.Laying.{whole-size, whole-narrow}
 use Rattle.bitmap_laws.proofs.Output.{taken}
 use Rattle.chunk_write.proofs.chunk_size.Statement.{statement}
-use mathlib.Core.Path.{_≡_, refl, sym, ap, _∙_}
-use Prim.Native.Nat.{ℕ, zero, suc, _+_, _-_, _*_, _≤_, _<_}
+use mathlib.Core.Path.{sym, ap, _∙_}
+use Prim.Native.Nat.{_-_}
 use native.Mathlib.Omega.{arith}
-use lib.ListN.{length, getD}
+use lib.ListN.{length}
 use borrow.Author.Needs.{needs}
 use Rattle.chunk_write.proofs.chunk_size.Tie as tie
-use Rattle.chunk_write.proofs.chunk_size.Reads as reads
-use Rattle.chunk_write.proofs.chunk_size.Lts as lts
-use Rattle.width_choice.proofs.least_of.Reads as least-of-reads
-use Rattle.chunk_parts.proofs.less.Reads as less-reads
-use Rattle.chunk_write.proofs.values_size.Reads as values-size-reads
 
--- src/lib.rt:101:9
 least-of-requires : tie.Need-least-of-requires
 least-of-requires c κs = search needs
 
--- src/lib.rt:103:31
 slice-aggregate-less : tie.Need-slice-aggregate-less
 slice-aggregate-less c = search needs
 
--- src/lib.rt:103:9
 less-requires : tie.Need-less-requires
 less-requires c κs = (omega arith, λ i h. rw (c .before .least-of .ensures) (least-at (c .before .before .before .args .ds .now) i h))
 
--- src/lib.rt:104:17
 array-share-prefix-a : tie.Need-array-share-prefix-a
 array-share-prefix-a c = search needs
 
--- src/lib.rt:104:17
 slice-aggregate-values-size : tie.Need-slice-aggregate-values-size
 slice-aggregate-values-size c = c .before .before .less .ensures .0 ∙ sym (length-map (c .before .before .before .before .before .before .args .ds .now) (λ d. d - c .before .before .before .before .least-of .result)) ∙ sym (ap length (taken _ _ (map (λ d. d - c .before .before .before .before .least-of .result) (c .before .before .before .before .before .before .args .ds .now)) (c .before .before .less .result) (c .before .before .less .ensures .1) (c .before .before .less .ensures .0 ∙ sym (length-map (c .before .before .before .before .before .before .args .ds .now) (λ d. d - c .before .before .before .before .least-of .result)))))
 
--- src/lib.rt:104:5
 values-size-requires : tie.Need-values-size-requires
 values-size-requires c κs =
     let s = c .before .before .before .before .before .before in
@@ -52,7 +37,6 @@ values-size-requires c κs =
     let n = ap length t ∙ length-map (c .before .before .before .before .before .before .args .ds .now) (λ d. d - c .before .before .before .before .least-of .result) in
     (rw n (s .pre .1), whole-narrow (s .args .ds .now) _ (m .result) (s .pre .2) t)
 
--- src/lib.rt:97:1
 returns : tie.Need-returns
 returns c =
     let s = c .before .before .before .before .before .before .before in

@@ -1,40 +1,32 @@
+-- Three stores, one behind the other.
+-- Assumes nothing.
 use lib.ListN.{length-set}
 use Rattle.chunk_write.proofs.Laying.{three}
 use Rattle.chunk_write.proofs.put3.Statement.{statement}
-use mathlib.Core.Path.{_≡_, refl, sym, ap, _∙_}
-use Prim.Native.Nat.{ℕ, zero, suc, _+_, _-_, _*_, _≤_, _<_}
+use mathlib.Core.Path.{refl}
+use Prim.Native.Nat.{_-_}
 use native.Mathlib.Omega.{arith}
-use lib.ListN.{length, getD}
 use borrow.Author.Needs.{needs}
 use Rattle.chunk_write.proofs.put3.Tie as tie
-use Rattle.chunk_write.proofs.put3.Reads as reads
-use Rattle.chunk_write.proofs.put3.Lts as lts
 
--- src/lib.rt:21:5
 slice-write-out : tie.Need-slice-write-out
 slice-write-out c = search needs
 
--- src/lib.rt:22:9
 add-out : tie.Need-add-out
 add-out c = search needs
 
--- src/lib.rt:22:5
 slice-write-out-2 : tie.Need-slice-write-out-2
 slice-write-out-2 c = simp length-set (omega arith)
 
--- src/lib.rt:23:9
 add-out-2 : tie.Need-add-out-2
 add-out-2 c = search needs
 
--- src/lib.rt:23:5
 slice-write-out-3 : tie.Need-slice-write-out-3
 slice-write-out-3 c = simp length-set (omega arith)
 
--- src/lib.rt:17:1
 same-length : tie.Need-same-length
 same-length c = search needs
 
--- src/lib.rt:17:1
 returns : tie.Need-returns
 returns c = (refl, three (c .args .out .now) (c .args .at) (c .args .x) (c .args .y) (c .args .z) (omega arith))
 

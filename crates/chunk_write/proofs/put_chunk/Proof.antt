@@ -1,49 +1,34 @@
+-- The descriptors less the least are the values of the written chunk.
+-- Assumes nothing.
 use mathlib.Core.List.{List, map}
-use lib.ListN.{take, length-map}
-use Prim.Native.Nat.{_/_, _%_, _^_}
-use Rattle.common.specs.Bytes.{ceil8}
-use Rattle.bitmap_spec.proofs.Parts.{prod}
-use Rattle.bitmap_spec.specs.Form.{wider, width, largest, cheapest, least, writeChunk}
+use lib.ListN.{length-map}
 use Rattle.bitmap_spec.specs.Output.{written}
-use Rattle.bitmap_laws.proofs.Length.{sizeAt, chunk-size}
 use Rattle.bitmap_laws.proofs.Values.{least-at}
-use Rattle.chunk_parts.specs.Kept.{offsets}
-use Rattle.chunk_write.proofs.Laying.{size-is, chunk-is, chosen, wide-many, wide-few, whole-chunk, whole-size, whole-narrow, whole-zero}
+use Rattle.chunk_write.proofs.Laying.{whole-chunk, whole-size, whole-narrow, whole-zero}
 use Rattle.bitmap_laws.proofs.Output.{taken}
 use Rattle.chunk_write.proofs.put_chunk.Statement.{statement}
-use mathlib.Core.Path.{_≡_, refl, sym, ap, _∙_}
-use Prim.Native.Nat.{ℕ, zero, suc, _+_, _-_, _*_, _≤_, _<_}
+use mathlib.Core.Path.{sym, ap, _∙_}
+use Prim.Native.Nat.{ℕ, _-_}
 use native.Mathlib.Omega.{arith}
-use lib.ListN.{length, getD}
+use lib.ListN.{length}
 use borrow.Author.Needs.{needs}
 use Rattle.chunk_write.proofs.put_chunk.Tie as tie
-use Rattle.chunk_write.proofs.put_chunk.Reads as reads
-use Rattle.chunk_write.proofs.put_chunk.Lts as lts
-use Rattle.width_choice.proofs.least_of.Reads as least-of-reads
-use Rattle.chunk_parts.proofs.less.Reads as less-reads
-use Rattle.chunk_write.proofs.put_values.Reads as put-values-reads
 
--- src/lib.rt:91:9
 least-of-requires : tie.Need-least-of-requires
 least-of-requires c κs = search needs
 
--- src/lib.rt:93:31
 slice-aggregate-less : tie.Need-slice-aggregate-less
 slice-aggregate-less c = search needs
 
--- src/lib.rt:93:9
 less-requires : tie.Need-less-requires
 less-requires c κs = (omega arith, λ i h. rw (c .before .least-of .ensures) (least-at (c .before .before .before .before .args .ds .now) i h))
 
--- src/lib.rt:94:16
 array-share-prefix-a : tie.Need-array-share-prefix-a
 array-share-prefix-a c = search needs
 
--- src/lib.rt:94:16
 slice-aggregate-put-values : tie.Need-slice-aggregate-put-values
 slice-aggregate-put-values c = c .before .before .less .ensures .0 ∙ sym (length-map (c .before .before .before .before .before .before .before .args .ds .now) (λ d. d - c .before .before .before .before .least-of .result)) ∙ sym (ap length (taken _ _ (map (λ d. d - c .before .before .before .before .least-of .result) (c .before .before .before .before .before .before .before .args .ds .now)) (c .before .before .less .result) (c .before .before .less .ensures .1) (c .before .before .less .ensures .0 ∙ sym (length-map (c .before .before .before .before .before .before .before .args .ds .now) (λ d. d - c .before .before .before .before .least-of .result)))))
 
--- src/lib.rt:94:5
 put-values-requires : tie.Need-put-values-requires
 put-values-requires c κs =
     let s = c .before .before .before .before .before .before .before .before in
@@ -52,11 +37,9 @@ put-values-requires c κs =
     let n = ap length t ∙ length-map (c .before .before .before .before .before .before .before .before .args .ds .now) (λ d. d - c .before .before .before .before .before .least-of .result) in
     (rw n (s .pre .1), whole-zero (s .args .ds .now) _ (m .result) (s .pre .0) (m .ensures) t, whole-narrow (s .args .ds .now) _ (m .result) (s .pre .2) t, rw (whole-size (s .args .ds .now) _ (m .result) (m .ensures) t) (s .pre .3))
 
--- src/lib.rt:87:1
 same-length : tie.Need-same-length
 same-length c = search needs
 
--- src/lib.rt:87:1
 returns : tie.Need-returns
 returns c =
     let s = c .before .before .before .before .before .before .before .before .before .before .before in

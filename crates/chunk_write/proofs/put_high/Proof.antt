@@ -1,53 +1,40 @@
-use mathlib.Core.List.{List, map}
-use Prim.Native.Nat.{_/_, _%_, _^_}
-use lib.ListN.{take, length-map}
-use Rattle.common.specs.Bytes.{ceil8}
-use Rattle.bitmap_spec.specs.Bits.{packValues}
+-- The parts of the exceptions, packed.
+-- Assumes nothing.
+use mathlib.Core.List.{List}
 use Rattle.bitmap_spec.specs.Output.{written}
 use Rattle.chunk_parts.proofs.Turns.{offs-few, parts-length}
-use Rattle.chunk_parts.specs.Kept.{offsets, parts}
-use Rattle.chunk_write.proofs.Laying.{low-packed, high-packed}
+use Rattle.chunk_parts.specs.Kept.{parts}
+use Rattle.chunk_write.proofs.Laying.{high-packed}
 use Rattle.bitmap_laws.proofs.Output.{taken}
 use Rattle.chunk_write.proofs.put_high.Statement.{statement}
-use mathlib.Core.Path.{_≡_, refl, sym, ap, _∙_}
-use Prim.Native.Nat.{ℕ, zero, suc, _+_, _-_, _*_, _≤_, _<_}
+use mathlib.Core.Path.{sym, ap, _∙_}
+use Prim.Native.Nat.{ℕ, _-_}
 use native.Mathlib.Omega.{arith}
-use lib.ListN.{length, getD}
+use lib.ListN.{length}
 use borrow.Author.Needs.{needs}
 use Rattle.chunk_write.proofs.put_high.Tie as tie
-use Rattle.chunk_write.proofs.put_high.Reads as reads
-use Rattle.chunk_write.proofs.put_high.Lts as lts
-use Rattle.chunk_parts.proofs.high_parts.Reads as high-parts-reads
-use Rattle.bit_pack.proofs.put_packed.Reads as put-packed-reads
 
--- src/lib.rt:54:37
 slice-aggregate-high-parts : tie.Need-slice-aggregate-high-parts
 slice-aggregate-high-parts c = search needs
 
--- src/lib.rt:54:9
 high-parts-requires : tie.Need-high-parts-requires
 high-parts-requires c κs = search needs
 
--- src/lib.rt:55:23
 array-share-prefix-a : tie.Need-array-share-prefix-a
 array-share-prefix-a c = omega (arith, offs-few (c .before .before .before .before .before .args .vs .now) (c .before .before .before .before .before .args .b) (length (c .before .before .before .before .before .args .vs .now)))
 
--- src/lib.rt:55:23
 slice-aggregate-put-packed : tie.Need-slice-aggregate-put-packed
 slice-aggregate-put-packed c =
     c .before .before .high-parts .ensures .0 ∙ sym (parts-length (c .before .before .before .before .before .before .args .vs .now) (c .before .before .before .before .before .before .args .b) (length (c .before .before .before .before .before .before .args .vs .now))) ∙ sym (ap length (taken _ _ (parts (c .before .before .before .before .before .before .args .vs .now) (c .before .before .before .before .before .before .args .b) (length (c .before .before .before .before .before .before .args .vs .now))) (c .before .before .high-parts .result) (c .before .before .high-parts .ensures .1) (c .before .before .high-parts .ensures .0 ∙ sym (parts-length (c .before .before .before .before .before .before .args .vs .now) (c .before .before .before .before .before .before .args .b) (length (c .before .before .before .before .before .before .args .vs .now))))))
 
--- src/lib.rt:55:5
 put-packed-requires : tie.Need-put-packed-requires
 put-packed-requires c κs =
     let t = ap length (taken _ _ (parts (c .before .before .before .before .before .before .before .args .vs .now) (c .before .before .before .before .before .before .before .args .b) (length (c .before .before .before .before .before .before .before .args .vs .now))) (c .before .before .before .high-parts .result) (c .before .before .before .high-parts .ensures .1) (c .before .before .before .high-parts .ensures .0 ∙ sym (parts-length (c .before .before .before .before .before .before .before .args .vs .now) (c .before .before .before .before .before .before .before .args .b) (length (c .before .before .before .before .before .before .before .args .vs .now))))) ∙ parts-length (c .before .before .before .before .before .before .before .args .vs .now) (c .before .before .before .before .before .before .before .args .b) (length (c .before .before .before .before .before .before .before .args .vs .now)) in
     (c .before .before .before .before .before .before .before .pre .2, rw t (omega (arith, offs-few (c .before .before .before .before .before .before .before .args .vs .now) (c .before .before .before .before .before .before .before .args .b) (length (c .before .before .before .before .before .before .before .args .vs .now)))), rw t (c .before .before .before .before .before .before .before .pre .3))
 
--- src/lib.rt:49:1
 same-length : tie.Need-same-length
 same-length c = search needs
 
--- src/lib.rt:49:1
 returns : tie.Need-returns
 returns c =
     let t = taken _ _ (parts (c .before .before .before .before .before .before .before .before .before .before .args .vs .now) (c .before .before .before .before .before .before .before .before .before .before .args .b) (length (c .before .before .before .before .before .before .before .before .before .before .args .vs .now))) (c .before .before .before .before .before .before .high-parts .result) (c .before .before .before .before .before .before .high-parts .ensures .1) (c .before .before .before .before .before .before .high-parts .ensures .0 ∙ sym (parts-length (c .before .before .before .before .before .before .before .before .before .before .args .vs .now) (c .before .before .before .before .before .before .before .before .before .before .args .b) (length (c .before .before .before .before .before .before .before .before .before .before .args .vs .now)))) in (

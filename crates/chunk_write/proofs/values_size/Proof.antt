@@ -1,82 +1,56 @@
-use mathlib.Core.List.{List, map}
-use lib.ListN.{take, length-map}
-use Prim.Native.Nat.{_/_, _%_, _^_}
+-- The chosen widths and exceptions, put into the length of a chunk.
+-- Assumes nothing.
 use Rattle.common.specs.Bytes.{ceil8}
 use Rattle.bitmap_spec.proofs.Parts.{prod}
-use Rattle.bitmap_spec.specs.Form.{wider, width, largest, cheapest, least, writeChunk}
-use Rattle.bitmap_spec.specs.Output.{written}
-use Rattle.bitmap_laws.proofs.Length.{sizeAt, chunk-size}
-use Rattle.bitmap_laws.proofs.Values.{least-at}
-use Rattle.chunk_parts.specs.Kept.{offsets}
-use Rattle.chunk_write.proofs.Laying.{size-is, chunk-is, chosen, wide-many, wide-few, whole-chunk, whole-size, whole-narrow, whole-zero}
-use Rattle.bitmap_laws.proofs.Output.{taken}
+use Rattle.bitmap_laws.proofs.Length.{sizeAt}
+use Rattle.chunk_write.proofs.Laying.{size-is, chosen}
 use Rattle.chunk_write.proofs.values_size.Statement.{statement}
-use mathlib.Core.Path.{_≡_, refl, sym, ap, _∙_}
-use Prim.Native.Nat.{ℕ, zero, suc, _+_, _-_, _*_, _≤_, _<_}
+use mathlib.Core.Path.{ap, _∙_}
+use Prim.Native.Nat.{ℕ, _-_}
 use native.Mathlib.Omega.{arith}
-use lib.ListN.{length, getD}
+use lib.ListN.{length}
 use borrow.Author.Needs.{needs}
 use Rattle.chunk_write.proofs.values_size.Tie as tie
-use Rattle.chunk_write.proofs.values_size.Reads as reads
-use Rattle.chunk_write.proofs.values_size.Lts as lts
-use Rattle.width_choice.proofs.cheapest_of.Reads as cheapest-of-reads
-use Rattle.width_choice.proofs.wider_count.Reads as wider-count-reads
-use Rattle.width_choice.proofs.widest.Reads as widest-reads
-use Rattle.chunk_write.proofs.second_of.Reads as second-of-reads
 
--- src/lib.rt:79:9
 widest-requires : tie.Need-widest-requires
 widest-requires c κs = search needs
 
--- src/lib.rt:80:9
 cheapest-of-requires : tie.Need-cheapest-of-requires
 cheapest-of-requires c κs = search needs
 
--- src/lib.rt:81:9
 wider-count-requires : tie.Need-wider-count-requires
 wider-count-requires c κs = search needs
 
--- src/lib.rt:82:9
 second-of-requires : tie.Need-second-of-requires
 second-of-requires c κs = search needs
 
--- src/lib.rt:83:22
 cast-result : tie.Need-cast-result
 cast-result c = search needs
 
--- src/lib.rt:83:10
 mul-result : tie.Need-mul-result
 mul-result c = omega (arith, prod 256 8 (length (c .before .before .before .before .before .args .vs .now)) (c .before .before .cheapest-of .result) (omega arith) (omega arith), prod 256 8 (c .before .wider-count .result) (c .second-of .result) (omega arith) (omega arith))
 
--- src/lib.rt:83:10
 add-result : tie.Need-add-result
 add-result c = omega (arith, prod 256 8 (length (c .before .before .before .before .before .args .vs .now)) (c .before .before .cheapest-of .result) (omega arith) (omega arith), prod 256 8 (c .before .wider-count .result) (c .second-of .result) (omega arith) (omega arith))
 
--- src/lib.rt:83:5
 add-result-2 : tie.Need-add-result-2
 add-result-2 c = omega (arith, prod 256 8 (length (c .before .before .before .before .before .args .vs .now)) (c .before .before .cheapest-of .result) (omega arith) (omega arith), prod 256 8 (c .before .wider-count .result) (c .second-of .result) (omega arith) (omega arith))
 
--- src/lib.rt:83:5
 add-result-3 : tie.Need-add-result-3
 add-result-3 c = omega (arith, prod 256 8 (length (c .before .before .before .before .before .args .vs .now)) (c .before .before .cheapest-of .result) (omega arith) (omega arith), prod 256 8 (c .before .wider-count .result) (c .second-of .result) (omega arith) (omega arith))
 
--- src/lib.rt:83:55
 cast-result-2 : tie.Need-cast-result-2
 cast-result-2 c = search needs
 
--- src/lib.rt:83:50
 mul-result-2 : tie.Need-mul-result-2
 mul-result-2 c = omega (arith, prod 256 8 (length (c .before .before .before .before .before .args .vs .now)) (c .before .before .cheapest-of .result) (omega arith) (omega arith), prod 256 8 (c .before .wider-count .result) (c .second-of .result) (omega arith) (omega arith))
 
--- src/lib.rt:83:50
 add-result-4 : tie.Need-add-result-4
 add-result-4 c = omega (arith, prod 256 8 (length (c .before .before .before .before .before .args .vs .now)) (c .before .before .cheapest-of .result) (omega arith) (omega arith), prod 256 8 (c .before .wider-count .result) (c .second-of .result) (omega arith) (omega arith))
 
--- src/lib.rt:83:5
 add-result-5 : tie.Need-add-result-5
 add-result-5 c = omega (arith, prod 256 8 (length (c .before .before .before .before .before .args .vs .now)) (c .before .before .cheapest-of .result) (omega arith) (omega arith), prod 256 8 (c .before .wider-count .result) (c .second-of .result) (omega arith) (omega arith))
 
--- src/lib.rt:75:1
 returns : tie.Need-returns
 unfolding ceil8
 returns c =

@@ -1,35 +1,28 @@
+-- The header, then the chunks behind it.
+-- Assumes nothing.
 use Rattle.form_write.proofs.Whole.{head-chunks}
 use Rattle.bitmap_laws.proofs.Output.{length-written}
 use Rattle.bitmap_laws.proofs.Round.{header, six-is}
 use borrow.Author.Needs.{needs}
-use mathlib.Core.Path.{_≡_, refl, sym, ap, _∙_}
-use Prim.Native.Nat.{ℕ, zero, suc, _+_, _-_, _*_, _≤_, _<_}
+use mathlib.Core.Path.{ap, _∙_}
+use Prim.Native.Nat.{_-_}
 use native.Mathlib.Omega.{arith}
-use lib.ListN.{length, getD}
+use lib.ListN.{length}
 use Rattle.form_write.proofs.put_head.Statement.{statement}
 use Rattle.form_write.proofs.put_head.Tie as tie
-use Rattle.form_write.proofs.put_head.Reads as reads
-use Rattle.form_write.proofs.put_head.Lts as lts
-use Rattle.chunks_write.proofs.put_chunks.Reads as put-chunks-reads
-use Rattle.form_write.proofs.put_header.Reads as put-header-reads
 
--- src/lib.rt:57:5
 put-header-requires : tie.Need-put-header-requires
 put-header-requires c κs = search needs
 
--- src/lib.rt:58:9
 put-chunks-requires : tie.Need-put-chunks-requires
 put-chunks-requires c κs = let e = ap length (c .before .before .before .put-header .ensures .1) ∙ length-written (c .before .before .before .before .before .before .before .args .out .now) (header (c .before .before .before .before .before .before .before .args .card) (length (c .before .before .before .before .before .before .before .args .ds .now))) 0 (omega (arith, six-is (c .before .before .before .before .before .before .before .args .card) (length (c .before .before .before .before .before .before .before .args .ds .now)), c .before .before .before .before .before .before .before .pre .2)) in (c .before .before .before .before .before .before .before .pre .0, c .before .before .before .before .before .before .before .pre .1, rw e (c .before .before .before .before .before .before .before .pre .2))
 
--- src/lib.rt:59:5
 add-result : tie.Need-add-result
 add-result c = omega (arith, c .before .before .put-chunks .ensures .0, c .before .before .before .before .before .before .before .before .before .before .pre .2)
 
--- src/lib.rt:53:1
 same-length : tie.Need-same-length
 same-length c = search needs
 
--- src/lib.rt:53:1
 returns : tie.Need-returns
 returns c = (omega (arith, c .before .before .put-chunks .ensures .0), head-chunks (c .before .before .before .before .before .before .before .before .before .before .args .out .now) _ _ (c .before .before .before .before .before .before .before .before .before .before .args .ds .now) (c .before .before .before .before .before .before .before .before .before .before .args .card) (c .before .before .before .before .before .before .before .before .before .before .pre .2) (c .before .before .before .before .before .before .put-header .ensures .1) (c .before .before .put-chunks .ensures .1))
 

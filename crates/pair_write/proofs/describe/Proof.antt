@@ -1,5 +1,6 @@
+-- The invariant: descriptors and members of the containers passed; at and bt are where the next two lie.
+-- Assumes nothing.
 use Rattle.bitmap_spec.specs.Judge.{sizeOf}
-use mathlib.Core.List.{List}
 use lib.ListN.{length-set}
 use Rattle.common.specs.Lists.{keep, from, mem}
 use Rattle.bitmap_spec.specs.Output.{written}
@@ -9,18 +10,12 @@ use Rattle.pair_write.specs.Sides.{placeAt, result}
 use Rattle.pair_write.proofs.Pairs.{place-start, place-next, side-room}
 use Rattle.pair_write.proofs.Result.{next-desc, next-card}
 use borrow.Author.Needs.{needs}
-use mathlib.Core.Path.{_≡_, refl, sym, ap, _∙_}
-use Prim.Native.Nat.{ℕ, zero, suc, _+_, _-_, _*_, _≤_, _<_}
+use mathlib.Core.Path.{_≡_, refl, ap, _∙_}
+use Prim.Native.Nat.{_-_, _*_, _≤_}
 use native.Mathlib.Omega.{arith}
-use lib.ListN.{length, getD}
+use lib.ListN.{length}
 use Rattle.pair_write.proofs.describe.Statement.{statement}
 use Rattle.pair_write.proofs.describe.Tie as tie
-use Rattle.pair_write.proofs.describe.Reads as reads
-use Rattle.pair_write.proofs.describe.Lts as lts
-use Rattle.judge.proofs.size_of.Reads as size-of-reads
-use Rattle.pair_write.proofs.descriptor.Reads as descriptor-reads
-use Rattle.pair_write.proofs.descriptor_at.Reads as descriptor-at-reads
-use Rattle.pair_write.proofs.pair_count.Reads as pair-count-reads
 
 abbrev Inv-loop : tie.InvT-loop
 Inv-loop o a da x b db y n ds₀ at₀ bt₀ card₀ k₀ ds at bt card k = (k ≤ n) × (card ≤ k * 256) × (at ≡ placeAt da x k) × (bt ≡ placeAt db y k) × (length ds ≡ length ds₀) × (card ≡ length (keep (λ z. mem z (result o a da x b db y)) (from 0 (k * 256)))) × (ds ≡ written ds₀ 0 (descsTo (result o a da x b db y) k))
@@ -28,67 +23,51 @@ Inv-loop o a da x b db y n ds₀ at₀ bt₀ card₀ k₀ ds at bt card k = (k �
 abbrev μ-loop : tie.MeasureT-loop
 μ-loop o a da x b db y n ds₀ at₀ bt₀ card₀ k₀ ds at bt card k = n - k
 
--- src/lib.rt:85:5
 loop-holds : tie.Need-loop-holds Inv-loop μ-loop
 loop-holds c = (omega arith, omega arith, place-start _ _ (c .before .before .before .args .x) (c .before .before .before .pre .0 .first), place-start _ _ (c .before .before .before .args .y) (c .before .before .before .pre .0 .second), refl, no-members (result (c .before .before .before .args .o) (c .before .before .before .args .a .now) (c .before .before .before .args .da .now) (c .before .before .before .args .x) (c .before .before .before .args .b .now) (c .before .before .before .args .db .now) (c .before .before .before .args .y)), no-descs (result (c .before .before .before .args .o) (c .before .before .before .args .a .now) (c .before .before .before .args .da .now) (c .before .before .before .args .x) (c .before .before .before .args .b .now) (c .before .before .before .args .db .now) (c .before .before .before .args .y)) (c .before .before .before .args .ds .now))
 
--- src/lib.rt:86:13
 descriptor-at-requires : tie.Need-descriptor-at-requires Inv-loop μ-loop
 descriptor-at-requires c κs = c .before .before .before .before .before .pre .0 .first .few
 
--- src/lib.rt:87:13
 descriptor-at-requires-2 : tie.Need-descriptor-at-requires-2 Inv-loop μ-loop
 descriptor-at-requires-2 c κs = c .before .before .before .before .before .before .pre .0 .second .few
 
--- src/lib.rt:88:13
 pair-count-requires : tie.Need-pair-count-requires Inv-loop μ-loop
 pair-count-requires c κs = (rw (c .before .descriptor-at .ensures) (side-room _ _ (c .before .before .before .before .before .before .before .args .x) (c .before .before .before .before .before .before .before .pre .0 .first) (c .before .before .before .loop .k) (c .before .before .before .loop .at) (c .before .before .before .loop .inv .2)), rw (c .descriptor-at2 .ensures) (side-room _ _ (c .before .before .before .before .before .before .before .args .y) (c .before .before .before .before .before .before .before .pre .0 .second) (c .before .before .before .loop .k) (c .before .before .before .loop .bt) (c .before .before .before .loop .inv .3)))
 
--- src/lib.rt:89:17
 descriptor-requires : tie.Need-descriptor-requires Inv-loop μ-loop
 descriptor-requires c κs = search needs
 
--- src/lib.rt:89:9
 slice-write-ds : tie.Need-slice-write-ds Inv-loop μ-loop
 slice-write-ds c = omega (arith, c .before .before .before .before .before .loop .inv .4, c .before .before .before .before .before .before .before .before .before .pre .1, c .before .before .before .before .before .before .before .before .before .pre .2)
 
--- src/lib.rt:90:9
 add-card : tie.Need-add-card Inv-loop μ-loop
 add-card c = omega (arith, c .before .before .before .before .before .loop .inv .1, c .before .pair-count .ensures .1, c .before .before .before .before .before .before .before .before .before .pre .1)
 
--- src/lib.rt:91:15
 size-of-requires : tie.Need-size-of-requires Inv-loop μ-loop
 size-of-requires c κs = search needs
 
--- src/lib.rt:91:9
 add-at : tie.Need-add-at Inv-loop μ-loop
 add-at c = omega (arith, side-room _ _ (c .before .before .before .before .before .before .before .before .before .before .args .x) (c .before .before .before .before .before .before .before .before .before .before .pre .0 .first) (c .before .before .before .before .before .before .loop .k) (c .before .before .before .before .before .before .loop .at) (c .before .before .before .before .before .before .loop .inv .2), c .size-of .ensures ∙ ap sizeOf (c .before .before .before .before .descriptor-at .ensures))
 
--- src/lib.rt:92:15
 size-of-requires-2 : tie.Need-size-of-requires-2 Inv-loop μ-loop
 size-of-requires-2 c κs = search needs
 
--- src/lib.rt:92:9
 add-bt : tie.Need-add-bt Inv-loop μ-loop
 add-bt c = omega (arith, side-room _ _ (c .before .before .before .before .before .before .before .before .before .before .before .args .y) (c .before .before .before .before .before .before .before .before .before .before .before .pre .0 .second) (c .before .before .before .before .before .before .before .loop .k) (c .before .before .before .before .before .before .before .loop .bt) (c .before .before .before .before .before .before .before .loop .inv .3), c .size-of2 .ensures ∙ ap sizeOf (c .before .before .before .before .descriptor-at2 .ensures))
 
--- src/lib.rt:93:9
 add-k : tie.Need-add-k Inv-loop μ-loop
 add-k c = omega (arith, c .before .before .before .before .before .before .before .before .before .before .before .pre .1)
 
--- src/lib.rt:85:5
 loop-less : tie.Need-loop-less Inv-loop μ-loop
 loop-less c = search needs
 
--- src/lib.rt:85:5
 loop-again : tie.Need-loop-again Inv-loop μ-loop
 loop-again c = (omega arith, omega (arith, c .before .before .before .pair-count .ensures .1, c .before .before .before .before .before .before .before .loop .inv .1), place-next _ _ (c .before .before .before .before .before .before .before .before .before .before .before .args .x) (c .before .before .before .before .before .before .before .before .before .before .before .pre .0 .first) (c .before .before .before .before .before .before .before .loop .k) (c .before .before .before .before .before .before .before .loop .at) _ (c .before .before .before .before .before .before .before .loop .inv .2) (c .before .size-of .ensures ∙ ap sizeOf (c .before .before .before .before .before .descriptor-at .ensures)), place-next _ _ (c .before .before .before .before .before .before .before .before .before .before .before .args .y) (c .before .before .before .before .before .before .before .before .before .before .before .pre .0 .second) (c .before .before .before .before .before .before .before .loop .k) (c .before .before .before .before .before .before .before .loop .bt) _ (c .before .before .before .before .before .before .before .loop .inv .3) (c .size-of2 .ensures ∙ ap sizeOf (c .before .before .before .before .descriptor-at2 .ensures)), simp length-set (c .before .before .before .before .before .before .before .loop .inv .4), next-card (c .before .before .before .before .before .before .before .before .before .before .before .args .o) _ _ (c .before .before .before .before .before .before .before .before .before .before .before .args .x) _ _ (c .before .before .before .before .before .before .before .before .before .before .before .args .y) (c .before .before .before .before .before .before .before .before .before .before .before .pre .0) (c .before .before .before .before .before .before .before .loop .k) (c .before .before .before .before .before .before .before .loop .at) (c .before .before .before .before .before .before .before .loop .bt) _ _ (c .before .before .before .before .before .before .before .loop .inv .2) (c .before .before .before .before .before .before .before .loop .inv .3) (c .before .before .before .before .before .descriptor-at .ensures) (c .before .before .before .before .descriptor-at2 .ensures) (c .before .before .before .before .before .before .before .loop .card) (c .before .before .before .pair-count .result) (c .before .before .before .pair-count .ensures .0) (c .before .before .before .before .before .before .before .loop .inv .5), next-desc (c .before .before .before .before .before .before .before .before .before .before .before .args .o) _ _ (c .before .before .before .before .before .before .before .before .before .before .before .args .x) _ _ (c .before .before .before .before .before .before .before .before .before .before .before .args .y) (c .before .before .before .before .before .before .before .before .before .before .before .pre .0) (c .before .before .before .before .before .before .before .loop .k) (c .before .before .before .before .before .before .before .loop .at) (c .before .before .before .before .before .before .before .loop .bt) _ _ (c .before .before .before .before .before .before .before .loop .inv .2) (c .before .before .before .before .before .before .before .loop .inv .3) (c .before .before .before .before .before .descriptor-at .ensures) (c .before .before .before .before .descriptor-at2 .ensures) (c .before .before .before .before .before .before .before .before .before .before .before .args .ds .now) (c .before .before .before .before .before .before .before .loop .ds) (c .before .before .descriptor .result) (c .before .before .before .pair-count .result) (omega (arith, c .before .before .before .before .before .before .before .before .before .before .before .pre .1, c .before .before .before .before .before .before .before .before .before .before .before .pre .2)) (c .before .before .before .pair-count .ensures .0) (c .before .before .descriptor .ensures) (c .before .before .before .before .before .before .before .loop .inv .6))
 
--- src/lib.rt:77:1
 same-length : tie.Need-same-length Inv-loop μ-loop
 same-length c = c .before .loop .inv .4
 
--- src/lib.rt:77:1
 returns : tie.Need-returns Inv-loop μ-loop
 returns c = let e : c .before .loop .k ≡ c .before .before .before .before .before .args .n = omega arith in (rw e at (c .before .loop .inv .5), rw e at (c .before .loop .inv .6))
 

@@ -1,33 +1,25 @@
-use mathlib.Core.List.{List, []}
-use Rattle.bitmap_spec.specs.Judge.{dense}
-use Rattle.bitmap_spec.proofs.Tally.{dense-length}
+-- Two empty containers give none; else the members of the joined block.
+-- Assumes nothing.
+use mathlib.Core.List.{[]}
 use Rattle.pair_write.specs.Sides.{pairMembers}
 use Rattle.pair_write.proofs.Result.{pair-none, pair-dense, pair-few}
-use mathlib.Core.Path.{_≡_, refl, sym, ap, _∙_}
-use Prim.Native.Nat.{ℕ, zero, suc, _+_, _-_, _*_, _≤_, _<_}
+use mathlib.Core.Path.{_≡_, sym, ap, _∙_}
+use Prim.Native.Nat.{_-_}
 use native.Mathlib.Omega.{arith}
-use lib.ListN.{length, getD}
+use lib.ListN.{length}
 use borrow.Author.Needs.{needs}
 use Rattle.pair_write.proofs.pair_count.Statement.{statement}
 use Rattle.pair_write.proofs.pair_count.Tie as tie
-use Rattle.pair_write.proofs.pair_count.Reads as reads
-use Rattle.pair_write.proofs.pair_count.Lts as lts
-use Rattle.blocks.proofs.count.Reads as count-reads
-use Rattle.pair_write.proofs.pair.Reads as pair-reads
 
--- src/lib.rt:60:13
 returns : tie.Need-returns
 returns c = let z : pairMembers (c .before .before .before .before .args .o) (c .before .before .before .before .args .a .now) (c .before .before .before .before .args .at) (c .before .before .before .before .args .d) (c .before .before .before .before .args .b .now) (c .before .before .before .before .args .bt) (c .before .before .before .before .args .e) ≡ [] = rw (c .before .if1 .taken, c .if2 .taken) (pair-none (c .before .before .before .before .args .o) (c .before .before .before .before .args .a .now) (c .before .before .before .before .args .at) (c .before .before .before .before .args .b .now) (c .before .before .before .before .args .bt)) in (sym (ap length z), omega arith)
 
--- src/lib.rt:63:19
 pair-requires : tie.Need-pair-requires
 pair-requires c κs = search needs
 
--- src/lib.rt:63:5
 count-requires : tie.Need-count-requires
 count-requires c κs = search needs
 
--- src/lib.rt:54:1
 returns-2 : tie.Need-returns-2
 returns-2 c = let e = c .count .ensures ∙ ap length (pair-dense (c .before .before .before .before .before .args .o) (c .before .before .before .before .before .args .a .now) (c .before .before .before .before .before .args .at) (c .before .before .before .before .before .args .d) (c .before .before .before .before .before .args .b .now) (c .before .before .before .before .before .args .bt) (c .before .before .before .before .before .args .e) (c .before .pair .result) (c .before .pair .ensures)) in (e, omega (arith, e, pair-few (c .before .before .before .before .before .args .o) (c .before .before .before .before .before .args .a .now) (c .before .before .before .before .before .args .at) (c .before .before .before .before .before .args .d) (c .before .before .before .before .before .args .b .now) (c .before .before .before .before .before .args .bt) (c .before .before .before .before .before .args .e)))
 
