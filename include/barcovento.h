@@ -55,7 +55,7 @@ uint32_t bv_bitmap_rank(const uint8_t *bytes, size_t len, uint32_t position, uin
 uint32_t bv_bitmap_page(const uint8_t *bytes, size_t len, uint32_t *place, uint8_t *finished,
                         uint32_t *list, size_t room, uint32_t *given);
 
-/* Bitmaps, writing. *length is the form's length; it holds the first bytes of out, the rest is unchanged. */
+/* Bitmaps, writing. *length is the form's length: the first *length bytes of out hold the form, the rest is unchanged. */
 
 /* The one form of a strictly rising list of positions. Refusals 12, 13. */
 uint32_t bv_bitmap_write(const uint32_t *positions, size_t count, uint8_t *out, size_t room,

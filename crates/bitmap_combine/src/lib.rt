@@ -13,7 +13,7 @@ use bitmap_spec::Written;
 use judge::Judged;
 use pair_write::Side;
 
-// The second bitmap's turn, after the first was accepted.
+// Judges the second bitmap, after the first was accepted, and combines the two.
 fn second(o: Operation, a: &[u8], da: &[u8; 8192], x: Side, b: &[u8], out: &mut [u8]) -> Written
     requires { ⌜ View (now a) (now da) (x .count) (x .start) (viewed (now a) (now da) (x .count) (x .start)) ⌝ }
     ensures { λ r. ⌜ Gives (then (judge (now (b .entry))) (λ m. placed (form (sets.combine o (viewed (now (a .entry)) (now (da .entry)) (x .count) (x .start)) m)) (length (now (out .entry))))) (now (out .entry)) (now (out .exit)) r ⌝ }

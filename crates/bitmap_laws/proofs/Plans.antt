@@ -43,7 +43,7 @@ record Sound (a : Input) : Type 0 where
   gives : input a ≡ need (fitsIn a) 13 (found (bytesIn a))
 
 -- the last step, with its form in hand
-last : (t : Bool) (w out : List ℕ) → ran (need t 13 (found w)) out ≡ need t 13 (found (record { length = length w; output = after (found w) out }))
+last : (t : Bool) (w out : List ℕ) → ran (need t 13 (found w)) out ≡ need t 13 (found (record { size = length w; output = after (found w) out }))
 unfolding ran need
 last true w out = refl
 last false w out = refl
@@ -64,7 +64,7 @@ step o a b out sa sb =
 
     go : (s t : Bool) → then (need s 13 (found (bytesIn a))) (λ x. then (need t 13 (found (bytesIn b))) (λ y.
         ran (then (judge x) (λ u. then (judge y) (λ v. need (leb (length (form (combine o u v))) (length out)) 13 (found (form (combine o u v)))))) out))
-        ≡ need (both s (both t (leb (length w) (length out)))) 13 (found (record { length = length w; output = after (found w) out }))
+        ≡ need (both s (both t (leb (length w) (length out)))) 13 (found (record { size = length w; output = after (found w) out }))
     go false t = refl
     go true false = refl
     go true true = rw (sa .accepted, sb .accepted) (last (leb (length w) (length out)) w out)
@@ -123,6 +123,23 @@ distributes a b c o₁ o₂ o₃ o₄ o₅ r t e f = same-bytes _ _ r t e f (λ 
     law true y z = refl
     law false y z = refl
 
+-- .. and from the other side
+pub distributes-right : (a b c : Input) (o₁ o₂ o₃ o₄ o₅ : List ℕ) (r t : Ran)
+    → run (call Intersection (wrote (call SymmetricDifference b c o₁)) a o₂) ≡ found r
+    → run (call SymmetricDifference (wrote (call Intersection b a o₃)) (wrote (call Intersection c a o₄)) o₅) ≡ found t
+    → wroteBytes r ≡ wroteBytes t
+unfolding member memberIn
+distributes-right a b c o₁ o₂ o₃ o₄ o₅ r t e f = same-bytes _ _ r t e f (λ x. law (memberIn a x) (memberIn b x) (memberIn c x))
+  where
+    law : (x y z : Bool) → holds Intersection (holds SymmetricDifference y z) x ≡ holds SymmetricDifference (holds Intersection y x) (holds Intersection z x)
+    law true true true = refl
+    law true true false = refl
+    law true false z = refl
+    law false true true = refl
+    law false true false = refl
+    law false false true = refl
+    law false false false = refl
+
 -- one bitmap applied twice to another by either-but-not-both gives the other's written form
 pub twice : (a b : Input) (o₁ o₂ : List ℕ) (r : Ran) → run (call SymmetricDifference (wrote (call SymmetricDifference a b o₁)) b o₂) ≡ found r → wroteBytes r ≡ form (inSet a)
 unfolding member memberIn
@@ -140,6 +157,21 @@ twice a b o₁ o₂ r e =
 
     undone : (x : ℕ) → member (call SymmetricDifference (wrote (call SymmetricDifference a b o₁)) b o₂) x ≡ memberIn a x
     undone x = law (memberIn a x) (memberIn b x)
+
+-- .. and applied from the other side
+pub twice-left : (a b : Input) (o₁ o₂ : List ℕ) (r : Ran) → run (call SymmetricDifference b (wrote (call SymmetricDifference b a o₁)) o₂) ≡ found r → wroteBytes r ≡ form (inSet a)
+unfolding member memberIn
+twice-left a b o₁ o₂ r e =
+    let c = every-plan (call SymmetricDifference b (wrote (call SymmetricDifference b a o₁)) o₂) in
+    let d = sound a in
+    writes (call SymmetricDifference b (wrote (call SymmetricDifference b a o₁)) o₂) r e
+    ∙ ap form (ext 2097152 0 _ (inSet a) (c .isSet) (d .isSet) (λ x. c .members x ∙ law (memberIn a x) (memberIn b x) ∙ sym (d .members x)))
+  where
+    law : (x y : Bool) → holds SymmetricDifference y (holds SymmetricDifference y x) ≡ x
+    law true true = refl
+    law true false = refl
+    law false true = refl
+    law false false = refl
 
 -- accepted bytes, rewritten from their set, come back unchanged exactly if they were in the written form
 pub unchanged : (b l : List ℕ) → judge b ≡ found l → (form l ≡ b → (k : List ℕ) × IsSet k × (b ≡ form k)) × (((k : List ℕ) × IsSet k × (b ≡ form k)) → form l ≡ b)

@@ -21,7 +21,7 @@ outputOf (call o a b out) = out
 
 -- what the last call gives and leaves where it writes the form of the plan's set
 unfoldable pub wroteForm : Plan → Ran
-wroteForm p = record { length = length (form (setOf p)); output = after (found (form (setOf p))) (outputOf p) }
+wroteForm p = record { size = length (form (setOf p)); output = after (found (form (setOf p))) (outputOf p) }
 
 -- The claim: a plan's set is a set, its members are those that the operations say, its form is accepted as it, and the plan's last
 -- call writes that form first in its output and leaves the rest; or the plan is refused, 13, exactly where some step has no room.

@@ -26,7 +26,7 @@ largest (x ∷ xs) = max x (largest xs)
 
 -- ---- a chunk. vs are the descriptors less m, "the least descriptor"
 
--- "the width of a value is the fewest bits that hold it (0 needs 0)"
+-- "the width of a value is the fewest bits that hold it less m (0 needs 0)"; v is already less m
 unfoldable pub width : ℕ → ℕ
 width v = 8 - leadingZeros 8 v
 

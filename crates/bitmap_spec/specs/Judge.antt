@@ -73,7 +73,7 @@ unfoldable pub lastChunk : List ℕ → ℕ → List ℕ → ℕ → Outcome Chu
 lastChunk s at acc zero = found (record { descs = acc; next = at })
 lastChunk s at acc (suc r) = then (chunk s at (suc r)) (λ c. found (record { descs = acc ++ c .descs; next = c .next }))
 
--- k whole chunks, then one of r, where r is not 0
+-- k whole chunks, then one of r unless r is 0
 unfoldable pub chunks : List ℕ → ℕ → List ℕ → ℕ → ℕ → Outcome Chunk
 chunks s at acc zero r = lastChunk s at acc r
 chunks s at acc (suc k) r = then (chunk s at 256) (λ c. chunks s (c .next) (acc ++ c .descs) k r)

@@ -44,17 +44,17 @@ unfoldable mutual
 
 -- what a call that was not refused leaves behind: the length it gives, and its output
 pub record Ran : Type 0 where
-  pub length : ℕ
+  pub size : ℕ
   pub output : List ℕ
 
 -- the call's answer with its output, as the contracts of the four calls state them
 unfoldable pub ran : Outcome (List ℕ) → List ℕ → Outcome Ran
 ran (refused n) out = refused n
-ran (found w) out = found (record { length = length w; output = after (found w) out })
+ran (found w) out = found (record { size = length w; output = after (found w) out })
 
 -- What a smaller plan wrote: the first bytes of its output, as many as the length it gave, "unchanged since".
 unfoldable pub wroteBytes : Ran → List ℕ
-wroteBytes r = take (r .length) (r .output)
+wroteBytes r = take (r .size) (r .output)
 
 -- the calls made one after the other: "a step whose form is longer than its output is refused, 13, and ends the plan"
 unfoldable mutual

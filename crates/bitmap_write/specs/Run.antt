@@ -9,7 +9,7 @@ pub record Below (ps : List ℕ) (b i : ℕ) : Type 0 where
   pub under : (t : ℕ) → t < i → getD ps t 0 < b
   pub over : (t : ℕ) → i ≤ t → t < length ps → b ≤ getD ps t 0
 
--- positions i to j, as members of their container
+-- positions i to j - 1, as members of their container
 unfoldable pub run : List ℕ → ℕ → ℕ → List ℕ
 run ps i j = map (λ x. x % 256) (take (j - i) (drop i ps))
 

@@ -87,7 +87,7 @@ fn describe(ps: &[u32], ds: &mut [u8]) -> usize
     n
 }
 
-// Writes positions i to j as members of their container, from out[at] on.
+// Writes positions i to j - 1 as members of their container, from out[at] on.
 fn put_low(ps: &[u32], i: usize, j: usize, out: &mut [u8], at: usize) -> usize
     requires { ⌜ (i ≤ j) × (j ≤ length (now ps)) × (at + (j - i) ≤ length (now out)) ⌝ }
     ensures { λ r. ⌜ (r ≡ j - i) × (now (out .exit) ≡ written (now (out .entry)) at (run (now (ps .entry)) i j)) ⌝ }
@@ -101,7 +101,7 @@ fn put_low(ps: &[u32], i: usize, j: usize, out: &mut [u8], at: usize) -> usize
     n
 }
 
-// The block of positions i to j.
+// The block of positions i to j - 1.
 fn run_block(ps: &[u32], i: usize, j: usize) -> [u8; 32]
     requires { ⌜ (i ≤ j) × (j ≤ length (now ps)) ⌝ }
     ensures { λ r. ⌜ r ≡ block (λ p. mem p (run (now (ps .entry)) i j)) ⌝ }
@@ -118,7 +118,7 @@ fn run_block(ps: &[u32], i: usize, j: usize) -> [u8; 32]
     b
 }
 
-// Writes the container of positions i to j, from out[at] on.
+// Writes the container of positions i to j - 1, from out[at] on.
 fn put_run(ps: &[u32], i: usize, j: usize, out: &mut [u8], at: usize) -> usize
     requires { ⌜ (i ≤ j) × (j ≤ length (now ps)) × (rising 256 0 (run (now ps) i j) ≡ true) × (at + length (writeContainer (run (now ps) i j)) ≤ length (now out)) ⌝ }
     ensures { λ r. ⌜ (r ≡ length (writeContainer (run (now (ps .entry)) i j))) × (now (out .exit) ≡ written (now (out .entry)) at (writeContainer (run (now (ps .entry)) i j))) ⌝ }

@@ -102,6 +102,7 @@ pub fn put_chunk(ds: &[u8], out: &mut [u8], at: usize) -> usize
     put_values(&a[..n], m, out, at)
 }
 
+// How many bytes a chunk of these descriptors takes.
 pub fn chunk_size(ds: &[u8]) -> usize
     requires { ⌜ (0 < length (now ds)) × (length (now ds) ≤ 256) × AllLe 63 (now ds) ⌝ }
     ensures { λ r. ⌜ (r ≡ length (writeChunk (now (ds .entry)))) × (r ≤ 195) ⌝ }

@@ -1,4 +1,4 @@
--- What each case of an answer is: this paper's number and values.
+-- What each case of an answer is: 01's number and values.
 use Prim.Native.Nat.{ℕ, _+_}
 use mathlib.Core.Bool.{Bool, true}
 use mathlib.Core.List.{List, []}
