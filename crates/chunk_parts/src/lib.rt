@@ -21,13 +21,14 @@ pub fn less(ds: &[u8], m: u8, vs: &mut [u8]) -> usize
 
 // The offsets of the values wider than b, from out[at] on.
 pub fn put_offsets(vs: &[u8], b: u32, out: &mut [u8], at: usize) -> usize
-    requires { ⌜ (length (now vs) ≤ 256) × (at + length (offsets (now vs) b (length (now vs))) ≤ length (now out)) ⌝ }
+    requires { ⌜ (length (now vs) ≤ 256) × (b < 8) × (at + length (offsets (now vs) b (length (now vs))) ≤ length (now out)) ⌝ }
     ensures { λ r. ⌜ (r ≡ length (offsets (now (vs .entry)) b (length (now (vs .entry))))) × (now (out .exit) ≡ written (now (out .entry)) at (offsets (now (vs .entry)) b (length (now (vs .entry))))) ⌝ }
 {
+    let limit = width_choice::limit_of(b);
     let mut e: usize = 0;
     let mut i: usize = 0;
     while i < vs.len() {
-        if b < width_choice::width_of(vs[i]) {
+        if limit <= vs[i] {
             out[at + e] = i as u8;
             e += 1;
         }
@@ -41,11 +42,12 @@ pub fn high_parts(vs: &[u8], b: u32, out: &mut [u8]) -> usize
     requires { ⌜ (length (now vs) ≤ length (now out)) × (b < 8) ⌝ }
     ensures { λ r. ⌜ (r ≡ length (offsets (now (vs .entry)) b (length (now (vs .entry))))) × (now (out .exit) ≡ written (now (out .entry)) 0 (parts (now (vs .entry)) b (length (now (vs .entry))))) ⌝ }
 {
+    let limit = width_choice::limit_of(b);
     let mut e: usize = 0;
     let mut i: usize = 0;
     while i < vs.len() {
         let v = vs[i];
-        if b < width_choice::width_of(v) {
+        if limit <= v {
             out[e] = v >> b;
             e += 1;
         }

@@ -58,3 +58,16 @@ cheapest-on vs b h = rw (add-one b) (rw (lt-ltb (cost vs (suc b)) (cost vs (chea
 pub cheapest-off : (vs : List ℕ) (b : ℕ) → cost vs (cheapest vs b) ≤ cost vs (b + 1) → cheapest vs (b + 1) ≡ cheapest vs b
 unfolding cheapest
 cheapest-off vs b h = rw (add-one b) (rw (le-ltb (cost vs (suc b)) (cost vs (cheapest vs b)) (rw (add-one b) at h)))
+
+pub cost-from : (vs : List ℕ) (b : ℕ) → 32 * b ≤ cost vs b
+unfolding cost
+cost-from vs b = omega arith
+
+-- where the least cost so far is at most 32 * (b + 1), no larger width is cheaper
+pub cheapest-stop : (vs : List ℕ) (b k : ℕ) → cost vs (cheapest vs b) ≤ 32 * (b + 1) → cheapest vs (b + k) ≡ cheapest vs b
+unfolding cheapest
+cheapest-stop vs b zero h = rw (add-zero b)
+cheapest-stop vs b (suc k) h =
+    let e = cheapest-stop vs b k h in
+    let g : cost vs (cheapest vs (b + k)) ≤ cost vs (b + k + 1) = rw e (omega (arith, cost-from vs (b + k + 1))) in
+    rw (← add-one k, ← add-assoc b k 1) (cheapest-off vs (b + k) g ∙ e)

@@ -1,7 +1,7 @@
 // The choice of a chunk's width.
 ghost use mathlib.Core.Path.{_≡_};
 ghost use mathlib.Core.List.{map};
-ghost use Prim.Native.Nat.{_+_, _-_, _*_, _≤_, _<_};
+ghost use Prim.Native.Nat.{_+_, _-_, _*_, _^_, _≤_, _<_};
 ghost use lib.ListN.{length, take, drop};
 ghost use Rattle.bitmap_spec.specs.Form.{width, least, largest, wider, cost, cheapest};
 ghost use Rattle.bitmap_laws.proofs.Length.{sizeAt};
@@ -30,36 +30,55 @@ pub fn least_of(ds: &[u8]) -> u8
     m
 }
 
-// The largest width.
-pub fn widest(vs: &[u8]) -> u32
-    ensures { λ r. ⌜ (r ≡ largest (map width (now (vs .entry)))) × (r ≤ 8) ⌝ }
+// The largest value.
+pub fn largest_of(vs: &[u8]) -> u8
+    ensures { λ r. ⌜ (r ≡ largest (now (vs .entry))) × (width r ≡ largest (map width (now (vs .entry)))) ⌝ }
 {
-    let mut w: u32 = 0;
+    let mut m: u8 = 0;
     let mut i: usize = 0;
     while i < vs.len() {
-        let x = width_of(vs[i]);
-        if w < x {
-            w = x;
+        let v = vs[i];
+        if m < v {
+            m = v;
         }
         i += 1;
     }
-    w
+    m
 }
 
-// How many values are wider than b.
+// The largest width: that of the largest value.
+pub fn widest(vs: &[u8]) -> u32
+    ensures { λ r. ⌜ (r ≡ largest (map width (now (vs .entry)))) × (r ≤ 8) ⌝ }
+{
+    width_of(largest_of(vs))
+}
+
+// The least value wider than b.
+pub fn limit_of(b: u32) -> u8
+    requires { ⌜ b < 8 ⌝ }
+    ensures { λ r. ⌜ r ≡ 2 ^ b ⌝ }
+{
+    1u8 << b
+}
+
+// How many values are wider than b: a loop over bytes with no branch.
 pub fn wider_count(vs: &[u8], b: u32) -> usize
+    requires { ⌜ length (now vs) ≤ 256 ⌝ }
     ensures { λ r. ⌜ (r ≡ length (wider b (now (vs .entry)))) × (r ≤ length (now (vs .entry))) ⌝ }
 {
-    let mut e: usize = 0;
+    if 8 <= b {
+        return 0;
+    }
+    let limit = limit_of(b);
+    let mut e: u16 = 0;
     let mut i: usize = 0;
     while i < vs.len() {
-        let x = width_of(vs[i]);
-        if b < x {
+        if limit <= vs[i] {
             e += 1;
         }
         i += 1;
     }
-    e
+    e as usize
 }
 
 // The cost of the width b, where w is the largest width.
@@ -80,6 +99,10 @@ pub fn cheapest_of(vs: &[u8], w: u32) -> u32
     let mut least = cost_of(vs, w, 0);
     let mut b: u32 = 0;
     while b < w {
+        // a larger width costs at least 32 for each bit
+        if least <= 32 * (b as usize + 1) {
+            return best;
+        }
         b += 1;
         let c = cost_of(vs, w, b);
         if c < least {
