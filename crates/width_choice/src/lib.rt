@@ -1,10 +1,9 @@
-// The choice of a chunk's width.
+// Widths, costs and the choice of the width b1 of a chunk. Inner: no entry point.
 ghost use mathlib.Core.Path.{_≡_};
 ghost use mathlib.Core.List.{map};
 ghost use Prim.Native.Nat.{_+_, _-_, _*_, _^_, _≤_, _<_};
-ghost use lib.ListN.{length, take, drop};
+ghost use lib.ListN.{length};
 ghost use Rattle.bitmap_spec.specs.Form.{width, least, largest, wider, cost, cheapest};
-ghost use Rattle.bitmap_laws.proofs.Length.{sizeAt};
 
 // The fewest bits that hold v.
 pub fn width_of(v: u8) -> u32

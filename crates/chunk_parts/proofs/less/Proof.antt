@@ -1,20 +1,16 @@
-use mathlib.Core.List.{List, map}
-use mathlib.Core.Logic.{⊎-elim}
-use Prim.Native.Nat.{_/_, _%_, _^_}
-use lib.ListN.{set, length-set, take}
+-- The invariant: the values passed are written less m.
+-- Assumes nothing.
+use mathlib.Core.List.{map}
+use lib.ListN.{length-set, take}
 use Rattle.bitmap_spec.specs.Output.{written}
 use Rattle.bitmap_laws.proofs.Output.{written-none}
-use Rattle.chunk_parts.proofs.Turns.{map-start, front-turn, map-end, offs-few, offs-le, offs-none, off-on, off-off, parts-none, part-front, part-off, room-on}
+use Rattle.chunk_parts.proofs.Turns.{front-turn, map-end}
 use Rattle.chunk_parts.proofs.less.Statement.{statement}
-use Rattle.chunk_parts.specs.Kept.{offsets, parts}
-use borrow.Author.Needs.{needs}
-use mathlib.Core.Path.{_≡_, refl, sym, ap, _∙_}
-use Prim.Native.Nat.{ℕ, zero, suc, _+_, _-_, _*_, _≤_, _<_}
+use mathlib.Core.Path.{_≡_, refl, _∙_}
+use Prim.Native.Nat.{_-_, _≤_}
 use native.Mathlib.Omega.{arith}
-use lib.ListN.{length, getD}
+use lib.ListN.{length}
 use Rattle.chunk_parts.proofs.less.Tie as tie
-use Rattle.chunk_parts.proofs.less.Reads as reads
-use Rattle.chunk_parts.proofs.less.Lts as lts
 
 abbrev Inv-loop : tie.InvT-loop
 Inv-loop ds m vs₀ i₀ vs i = (i ≤ length ds) × (length vs ≡ length vs₀) × (vs ≡ written vs₀ 0 (map (λ d. d - m) (take i ds)))
@@ -22,42 +18,33 @@ Inv-loop ds m vs₀ i₀ vs i = (i ≤ length ds) × (length vs ≡ length vs₀
 abbrev μ-loop : tie.MeasureT-loop
 μ-loop ds m vs₀ i₀ vs i = length ds - i
 
--- src/lib.rt:15:5
 loop-holds : tie.Need-loop-holds Inv-loop μ-loop
 loop-holds c = (omega arith, refl, written-none (c .args .vs .now) 0)
 
--- src/lib.rt:16:17
 shared-slice-read-vs : tie.Need-shared-slice-read-vs Inv-loop μ-loop
 shared-slice-read-vs c = omega arith
 
--- src/lib.rt:16:17
 sub-vs : tie.Need-sub-vs Inv-loop μ-loop
 sub-vs c = c .before .before .before .pre .1 (c .before .before .loop .i) (omega arith)
 
--- src/lib.rt:16:9
 slice-write-vs : tie.Need-slice-write-vs Inv-loop μ-loop
 slice-write-vs c = omega arith
 
--- src/lib.rt:17:9
 add-i : tie.Need-add-i Inv-loop μ-loop
 add-i c = omega arith
 
--- src/lib.rt:15:5
 loop-less : tie.Need-loop-less Inv-loop μ-loop
 loop-less c = omega arith
 
--- src/lib.rt:15:5
 loop-again : tie.Need-loop-again Inv-loop μ-loop
 loop-again c =
     let a = c .before .before .before .args in
     let l = c .before .before .loop in
     (omega arith, length-set (l .vs) (l .i) _ ∙ l .inv .1, front-turn (λ d. d - a .m) (a .ds .now) (a .vs .now) (l .vs) (l .i) _ (omega arith) (omega arith) refl (l .inv .2))
 
--- src/lib.rt:10:1
 same-length : tie.Need-same-length Inv-loop μ-loop
 same-length c = c .before .loop .inv .1
 
--- src/lib.rt:10:1
 returns : tie.Need-returns Inv-loop μ-loop
 returns c =
     let a = c .before .before .args in
