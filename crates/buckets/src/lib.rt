@@ -46,3 +46,10 @@ pub fn field(schema_bytes: &[u8], rows: u32, bucket: &[u8], row: u32, column: u3
     }
     FieldAnswer::Refused(judged.refused)
 }
+
+// The bytes of text, bytes or a large DECIMAL as they lie in the bucket; empty for any other answer or a refusal.
+pub fn part<'a>(schema_bytes: &[u8], rows: u32, bucket: &'a [u8], row: u32, column: u32) -> &'a [u8]
+    ensures { λ r. ⌜ now r ≡ partOf (bucketField (now («schema_bytes» .entry)) rows (now (bucket .entry)) row column) (now (bucket .entry)) ⌝ }
+{
+    values::part(bucket, field(schema_bytes, rows, bucket, row, column))
+}
