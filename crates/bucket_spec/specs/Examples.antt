@@ -10,7 +10,7 @@ use Rattle.common.specs.Bytes.{ceil8, bigAt, signedOf, lowBit, lowBits, lowCoun
 use Rattle.row_spec.specs.Varint.{varintAt, groups, lastGroup}
 use Rattle.row_spec.specs.Schema.{schema, columnsFrom, columnAt, typeAt, types, numbered, decimal}
 use Rattle.row_spec.specs.Value.{valueAt, storedAt, wholeAt, wordAt, room}
-use Rattle.bucket_spec.specs.Piece.{values, nth, indexWidth, tableOf, constPiece, tablePiece, nullsPiece, live, indexes, dataPiece, piece, valueOf}
+use Rattle.bucket_spec.specs.Piece.{values, hereOf, nth, indexWidth, tableOf, constPiece, tablePiece, nullsPiece, live, indexes, dataPiece, piece, entryOf, valueOf}
 use Rattle.bucket_spec.specs.Bucket.{along, colOf, tagOf, mapped, pieceOf, parts, tagAllowed, body, isNull, answer, headNumber, tagsAt, bucket, bucketField}
 use Rattle.row_spec.specs.declared.Field.{Field}
 use Rattle.row_spec.specs.declared.Field.the-variants.{Whole}
@@ -26,5 +26,5 @@ abbrev pub bucketRows : List (Outcome Field)
 bucketRows = bucketField bucketSchema 3 bucketBytes 0 0 ∷ bucketField bucketSchema 3 bucketBytes 1 0 ∷ bucketField bucketSchema 3 bucketBytes 2 0 ∷ []
 
 pub bucket-line : bucketRows ≡ found (Whole (pos 1)) ∷ found (Whole (pos 2)) ∷ found (Whole (pos 1)) ∷ []
-unfolding need from every ceil8 bigAt signedOf lowBit lowBits lowCount lowSpareZero varintAt groups lastGroup schema columnsFrom columnAt typeAt types numbered decimal valueAt storedAt wholeAt wordAt room values nth indexWidth tableOf constPiece tablePiece nullsPiece live indexes dataPiece piece valueOf along colOf tagOf mapped pieceOf parts tagAllowed body isNull answer headNumber tagsAt bucket bucketField leadingZeros
+unfolding need from every ceil8 bigAt signedOf lowBit lowBits lowCount lowSpareZero varintAt groups lastGroup schema columnsFrom columnAt typeAt types numbered decimal valueAt storedAt wholeAt wordAt room values hereOf nth indexWidth tableOf constPiece tablePiece nullsPiece live indexes dataPiece piece entryOf valueOf along colOf tagOf mapped pieceOf parts tagAllowed body isNull answer headNumber tagsAt bucket bucketField leadingZeros
 bucket-line = refl

@@ -20,9 +20,13 @@ unfoldable pub values : List ℕ → ColumnType → ℕ → ℕ → Outcome ℕ
 values s t zero at = found at
 values s t (suc n) at = onValue (valueAt true s at t) (refused 31) (refused 32) (λ f next. values s t n next)
 
+-- the value at p
+unfoldable pub hereOf : List ℕ → ColumnType → ℕ → Outcome Field
+hereOf s t p = onValue (valueAt true s p t) (refused 31) (refused 32) (λ f next. found f)
+
 -- value j of those from at on
 unfoldable pub nth : List ℕ → ColumnType → ℕ → ℕ → Outcome Field
-nth s t at j = then (values s t j at) (λ p. onValue (valueAt true s p t) (refused 31) (refused 32) (λ f next. found f))
+nth s t at j = then (values s t j at) (hereOf s t)
 
 -- "ceil(log2(entries)) bits wide": the binary digits of the last index
 unfoldable pub indexWidth : ℕ → ℕ
@@ -84,10 +88,15 @@ piece part s c tag mapped n table nulls at =
     (pick (eqb part 2) (nullsPiece s (c .nullable) mapped n at)
     (dataPiece s (c .ty) tag (live s mapped nulls n) table at)))
 
+-- the entry that index j of the data at cells names in the table at table
+unfoldable pub entryOf : List ℕ → ColumnType → ℕ → ℕ → ℕ → Outcome Field
+entryOf s t j table cells =
+    nth s t (afterOf (varintAt s table))
+    (lowBits s cells (j * indexWidth (entriesOf (varintAt s table))) (indexWidth (entriesOf (varintAt s table))))
+
 -- the value of row r, not null: its pieces are at const, table, nulls and cells
 unfoldable pub valueOf : List ℕ → ColumnType → ℕ → Bool → ℕ → ℕ → ℕ → ℕ → ℕ → Outcome Field
 valueOf s t tag mapped r const table nulls cells =
-    pick (eqb tag 0) (nth s t cells (live s mapped nulls r))
-    (pick (eqb tag 1) (nth s t const 0)
-    (nth s t (afterOf (varintAt s table))
-    (lowBits s cells (live s mapped nulls r * indexWidth (entriesOf (varintAt s table))) (indexWidth (entriesOf (varintAt s table))))))
+    pick (eqb tag 1) (nth s t const 0)
+    (pick (eqb tag 0) (nth s t cells (live s mapped nulls r))
+    (entryOf s t (live s mapped nulls r) table cells))

@@ -19,5 +19,8 @@ partOutcome k x = pick (x .ok) (found (record { starts = take k (x .starts); nex
 abbrev pub layoutRead : ℕ → BucketRead → Layout
 layoutRead k x = record { consts = take k (x .consts); tables = take k (x .tables); nulls = take k (x .nulls); cells = take k (x .cells) }
 
+abbrev pub layoutOutcome : ℕ → BucketRead → Outcome Layout
+layoutOutcome k x = pick (x .ok) (found (layoutRead k x)) (refused (x .refused))
+
 abbrev pub bucketOutcome : ℕ → BucketRead → Outcome Judged
 bucketOutcome k x = pick (x .ok) (found (record { tags = x .frame .tags; layout = layoutRead k x })) (refused (x .refused))

@@ -1,0 +1,3 @@
+pub mod Alongs
+pub mod Parts
+pub mod Bodies

@@ -1,0 +1,2 @@
+pub mod LowBits
+pub mod Runs
