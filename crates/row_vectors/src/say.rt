@@ -1,4 +1,5 @@
 // A case's name and its answer, on one line.
+ghost use Prim.Native.Nat.{_<_};
 use row_spec::ColumnAnswer;
 use row_spec::CountAnswer;
 use row_spec::Field;
@@ -34,7 +35,7 @@ fn field(f: Field, whole: i64) {
 }
 
 // The field of a row and a column, and its part.
-pub(crate) fn ask(name: &[u8], schema: &[u8], block: &[u8], row: u32, column: u32, whole: i64) {
+fn ask(name: &[u8], schema: &[u8], block: &[u8], row: u32, column: u32, whole: i64) {
     io::write_all(1, name);
     match rows::field(schema, block, row, column) {
         FieldAnswer::Refused(n) => refused(n),
@@ -47,7 +48,7 @@ pub(crate) fn ask(name: &[u8], schema: &[u8], block: &[u8], row: u32, column: u3
 }
 
 // The number of rows.
-pub(crate) fn count(name: &[u8], schema: &[u8], block: &[u8]) {
+fn count(name: &[u8], schema: &[u8], block: &[u8]) {
     io::write_all(1, name);
     match rows::check(schema, block) {
         CountAnswer::Refused(n) => refused(n),
@@ -60,7 +61,7 @@ pub(crate) fn count(name: &[u8], schema: &[u8], block: &[u8]) {
 }
 
 // Whether a column of a schema is there.
-pub(crate) fn column(name: &[u8], bytes: &[u8], i: u32) {
+fn column(name: &[u8], bytes: &[u8], i: u32) {
     io::write_all(1, name);
     match schema::column(bytes, i) {
         ColumnAnswer::Refused(n) => refused(n),
@@ -70,4 +71,63 @@ pub(crate) fn column(name: &[u8], bytes: &[u8], i: u32) {
         }
     }
     io::write_all(1, b"\n");
+}
+
+// One case: its question, the lengths of its name, schema and bytes, 3 bytes of 0, its row, column and the whole number wanted
+// (8 bytes), then name, schema and bytes. The place after it, or 0 where it is cut short.
+fn one(t: &[u8]) -> usize {
+    if t.len() < 17 {
+        return 0;
+    }
+    let a = 17 + wide(t[1]);
+    let b = a + wide(t[2]);
+    let e = b + wide(t[3]);
+    if t.len() < e {
+        return 0;
+    }
+    let whole = numbers::signed(numbers::little_endian(t, 9, 8), 9223372036854775808);
+    if t[0] == b'a' {
+        ask(
+            &t[17..a],
+            &t[a..b],
+            &t[b..e],
+            wide32(t[7]),
+            wide32(t[8]),
+            whole,
+        );
+        return e;
+    }
+    if t[0] == b'c' {
+        count(&t[17..a], &t[a..b], &t[b..e]);
+        return e;
+    }
+    column(&t[17..a], &t[a..b], wide32(t[8]));
+    e
+}
+
+// A byte as a length.
+fn wide(x: u8) -> usize
+    ensures { λ r. ⌜ r < 256 ⌝ }
+{
+    x as usize
+}
+
+// A byte as a number.
+fn wide32(x: u8) -> u32 {
+    x as u32
+}
+
+// Every case.
+pub(crate) fn run(s: &[u8]) {
+    let mut at = 0;
+    while at < s.len() {
+        let n = one(&s[at..]);
+        if n == 0 {
+            return;
+        }
+        if s.len() - at < n {
+            return;
+        }
+        at += n;
+    }
 }
