@@ -4,7 +4,7 @@ ghost use Rattle.common.specs.Outcome.{one};
 ghost use Rattle.row_spec.specs.Schema.{columnCount, columnOf};
 ghost use Rattle.row_spec.specs.Block.{rowCount, blockField};
 ghost use Rattle.row_spec.specs.Answer.{refusal, after, shown, typeShown};
-ghost use Rattle.c_api.specs.Outputs.{itself};
+ghost use Rattle.c_api.specs.Outputs.{itself, asType};
 use row_spec::ColumnAnswer;
 use row_spec::ColumnType;
 use row_spec::CountAnswer;
@@ -26,96 +26,35 @@ pub extern "C" fn bv_schema_check(schema: &[u8], columns: &mut u32) -> u32
     }
 }
 
+// A type's id, size and scale.
+fn numbers_of(id: u8, size: u32, scale: u32) -> TypeShown
+    ensures { λ r. ⌜ r ≡ asType id size scale ⌝ }
+{
+    TypeShown { id, size, scale }
+}
+
 // A type as plain numbers.
 fn show_type(t: ColumnType) -> TypeShown
     ensures { λ r. ⌜ r ≡ typeShown t ⌝ }
 {
     match t {
-        ColumnType::Boolean => TypeShown {
-            id: 0,
-            size: 0,
-            scale: 0,
-        },
-        ColumnType::TinyInt => TypeShown {
-            id: 1,
-            size: 0,
-            scale: 0,
-        },
-        ColumnType::SmallInt => TypeShown {
-            id: 2,
-            size: 0,
-            scale: 0,
-        },
-        ColumnType::Int => TypeShown {
-            id: 3,
-            size: 0,
-            scale: 0,
-        },
-        ColumnType::BigInt => TypeShown {
-            id: 4,
-            size: 0,
-            scale: 0,
-        },
-        ColumnType::Float => TypeShown {
-            id: 5,
-            size: 0,
-            scale: 0,
-        },
-        ColumnType::Double => TypeShown {
-            id: 6,
-            size: 0,
-            scale: 0,
-        },
-        ColumnType::Date => TypeShown {
-            id: 7,
-            size: 0,
-            scale: 0,
-        },
-        ColumnType::Char { length } => TypeShown {
-            id: 8,
-            size: length,
-            scale: 0,
-        },
-        ColumnType::Varchar { length } => TypeShown {
-            id: 9,
-            size: length,
-            scale: 0,
-        },
-        ColumnType::String => TypeShown {
-            id: 10,
-            size: 0,
-            scale: 0,
-        },
-        ColumnType::Binary { length } => TypeShown {
-            id: 11,
-            size: length,
-            scale: 0,
-        },
-        ColumnType::Varbinary { length } => TypeShown {
-            id: 12,
-            size: length,
-            scale: 0,
-        },
-        ColumnType::Bytes => TypeShown {
-            id: 13,
-            size: 0,
-            scale: 0,
-        },
-        ColumnType::Decimal { precision, scale } => TypeShown {
-            id: 14,
-            size: precision,
-            scale,
-        },
-        ColumnType::Time { precision } => TypeShown {
-            id: 15,
-            size: precision,
-            scale: 0,
-        },
-        ColumnType::Timestamp { precision } => TypeShown {
-            id: 16,
-            size: precision,
-            scale: 0,
-        },
+        ColumnType::Boolean => numbers_of(0, 0, 0),
+        ColumnType::TinyInt => numbers_of(1, 0, 0),
+        ColumnType::SmallInt => numbers_of(2, 0, 0),
+        ColumnType::Int => numbers_of(3, 0, 0),
+        ColumnType::BigInt => numbers_of(4, 0, 0),
+        ColumnType::Float => numbers_of(5, 0, 0),
+        ColumnType::Double => numbers_of(6, 0, 0),
+        ColumnType::Date => numbers_of(7, 0, 0),
+        ColumnType::Char { length } => numbers_of(8, length, 0),
+        ColumnType::Varchar { length } => numbers_of(9, length, 0),
+        ColumnType::String => numbers_of(10, 0, 0),
+        ColumnType::Binary { length } => numbers_of(11, length, 0),
+        ColumnType::Varbinary { length } => numbers_of(12, length, 0),
+        ColumnType::Bytes => numbers_of(13, 0, 0),
+        ColumnType::Decimal { precision, scale } => numbers_of(14, precision, scale),
+        ColumnType::Time { precision } => numbers_of(15, precision, 0),
+        ColumnType::Timestamp { precision } => numbers_of(16, precision, 0),
     }
 }
 
