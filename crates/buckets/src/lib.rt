@@ -1,6 +1,6 @@
 // Buckets: the whole bucket is judged, then a question is answered from the asked column's pieces.
 ghost use mathlib.Core.Path.{_≡_};
-ghost use Rattle.row_spec.specs.Answer.{refusal, fieldOutcome, partOf};
+ghost use Rattle.row_spec.specs.Answer.{refusal, fieldOutcome, VeryPart};
 ghost use Rattle.bucket_spec.specs.Bucket.{bucketRefusal, bucketField};
 use row_spec::FieldAnswer;
 
@@ -49,7 +49,7 @@ pub fn field(schema_bytes: &[u8], rows: u32, bucket: &[u8], row: u32, column: u3
 
 // The bytes of text, bytes or a large DECIMAL as they lie in the bucket; empty for any other answer or a refusal.
 pub fn part<'a>(schema_bytes: &[u8], rows: u32, bucket: &'a [u8], row: u32, column: u32) -> &'a [u8]
-    ensures { λ r. ⌜ now r ≡ partOf (bucketField (now («schema_bytes» .entry)) rows (now (bucket .entry)) row column) (now (bucket .entry)) ⌝ }
+    ensures { λ r. ⌜ VeryPart (bucketField (now («schema_bytes» .entry)) rows (now (bucket .entry)) row column) (now (bucket .entry)) (now r) ((bucket .entry) .ptr) (r .ptr) ⌝ }
 {
     values::part(bucket, field(schema_bytes, rows, bucket, row, column))
 }

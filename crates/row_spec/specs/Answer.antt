@@ -1,6 +1,7 @@
 -- What each case of an answer is: 01's number and values.
 use Prim.Native.Nat.{ℕ, _+_}
 use mathlib.Core.Bool.{Bool, true}
+use mathlib.Core.Path.{_≡_}
 use mathlib.Core.List.{List, []}
 use lib.ListN.{take, drop}
 use lib.Dec.{leb}
@@ -61,6 +62,13 @@ partOf (found (field.NanF32 n)) s = []
 partOf (found (field.NanF64 n)) s = []
 partOf (found (field.Time z n)) s = []
 partOf (refused n) s = []
+
+-- The part of an answer o that is handed back of the bytes s. A pointer is a memory and an offset in it: the bytes are at from, the part at to.
+-- "That very part" starts where the place says. An empty part is free to lie anywhere in the same memory.
+pub record VeryPart (o : Outcome Field) (s part : List ℕ) (from to : ℕ × ℕ) : Type 0 where
+  pub holds : part ≡ partOf o s
+  pub memory : to .0 ≡ from .0
+  pub lies : (a l : ℕ) → o ≡ found (field.Place a l) → to .1 ≡ from .1 + a
 
 -- a place lies within n bytes; what is no place lies anywhere
 unfoldable pub inside : ℕ → Field → Bool
