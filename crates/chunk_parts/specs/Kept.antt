@@ -1,18 +1,14 @@
--- The exceptions of a chunk at the width b: their offsets and their parts.
-use Prim.Native.Nat.{ℕ, _/_, _%_, _^_}
+-- The exceptions of a chunk at the width b, by the widths of its values.
+use Prim.Native.Nat.{ℕ}
 use mathlib.Core.Bool.{Bool}
-use mathlib.Core.List.{List, map}
-use lib.ListN.{length, getD}
+use mathlib.Core.List.{List}
+use lib.ListN.{getD}
 use lib.Dec.{ltb}
 use Rattle.common.specs.Lists.{keep, from}
-use Rattle.bitmap_spec.specs.Form.{width}
 
-unfoldable pub isWide : List ℕ → ℕ → ℕ → Bool
-isWide vs b i = ltb b (width (getD vs i 0))
+unfoldable pub isOver : List ℕ → ℕ → ℕ → Bool
+isOver ws b i = ltb b (getD ws i 0)
 
--- among the first n values
+-- the offsets of the exceptions among the first n values
 unfoldable pub offsets : List ℕ → ℕ → ℕ → List ℕ
-offsets vs b n = keep (isWide vs b) (from 0 n)
-
-unfoldable pub parts : List ℕ → ℕ → ℕ → List ℕ
-parts vs b n = map (λ i. getD vs i 0 / 2 ^ b) (offsets vs b n)
+offsets ws b n = keep (isOver ws b) (from 0 n)

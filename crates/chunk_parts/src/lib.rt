@@ -4,7 +4,7 @@ ghost use mathlib.Core.List.{map};
 ghost use Prim.Native.Nat.{ℕ, _+_, _-_, _*_, _/_, _%_, _^_, _≤_, _<_};
 ghost use lib.ListN.{length, getD};
 ghost use Rattle.bitmap_spec.specs.Output.{written};
-ghost use Rattle.chunk_parts.specs.Kept.{offsets, parts};
+ghost use Rattle.chunk_parts.specs.Kept.{offsets};
 
 // The descriptors less m.
 pub fn less(ds: &[u8], m: u8, vs: &mut [u8]) -> usize
@@ -19,16 +19,16 @@ pub fn less(ds: &[u8], m: u8, vs: &mut [u8]) -> usize
     i
 }
 
-// The offsets of the values wider than b, from out[at] on.
-pub fn put_offsets(vs: &[u8], b: u32, out: &mut [u8], at: usize) -> usize
-    requires { ⌜ (length (now vs) ≤ 256) × (b < 8) × (at + length (offsets (now vs) b (length (now vs))) ≤ length (now out)) ⌝ }
-    ensures { λ r. ⌜ (r ≡ length (offsets (now (vs .entry)) b (length (now (vs .entry))))) × (now (out .exit) ≡ written (now (out .entry)) at (offsets (now (vs .entry)) b (length (now (vs .entry))))) ⌝ }
+// The offsets of the widths over b, from out[at] on.
+pub fn put_offsets(ws: &[u8], b: u32, out: &mut [u8], at: usize) -> usize
+    requires { ⌜ (length (now ws) ≤ 256) × (b < 8) × (at + length (offsets (now ws) b (length (now ws))) ≤ length (now out)) ⌝ }
+    ensures { λ r. ⌜ (r ≡ length (offsets (now (ws .entry)) b (length (now (ws .entry))))) × (now (out .exit) ≡ written (now (out .entry)) at (offsets (now (ws .entry)) b (length (now (ws .entry))))) ⌝ }
 {
-    let limit = width_choice::limit_of(b);
+    let narrow = b as u8;
     let mut e: usize = 0;
     let mut i: usize = 0;
-    while i < vs.len() {
-        if limit <= vs[i] {
+    while i < ws.len() {
+        if narrow < ws[i] {
             out[at + e] = i as u8;
             e += 1;
         }
@@ -37,21 +37,16 @@ pub fn put_offsets(vs: &[u8], b: u32, out: &mut [u8], at: usize) -> usize
     e
 }
 
-// The bits above b of the values wider than b.
-pub fn high_parts(vs: &[u8], b: u32, out: &mut [u8]) -> usize
-    requires { ⌜ (length (now vs) ≤ length (now out)) × (b < 8) ⌝ }
-    ensures { λ r. ⌜ (r ≡ length (offsets (now (vs .entry)) b (length (now (vs .entry))))) × (now (out .exit) ≡ written (now (out .entry)) 0 (parts (now (vs .entry)) b (length (now (vs .entry))))) ⌝ }
+// The bits above b of the values at the offsets.
+pub fn high_parts(vs: &[u8], b: u32, offs: &[u8], out: &mut [u8]) -> usize
+    requires { ⌜ (length (now offs) ≤ length (now out)) × (b < 8) × ((j : ℕ) → j < length (now offs) → getD (now offs) j 0 < length (now vs)) ⌝ }
+    ensures { λ r. ⌜ (r ≡ length (now (offs .entry))) × (now (out .exit) ≡ written (now (out .entry)) 0 (map (λ i. getD (now (vs .entry)) i 0 / 2 ^ b) (now (offs .entry)))) ⌝ }
 {
-    let limit = width_choice::limit_of(b);
-    let mut e: usize = 0;
-    let mut i: usize = 0;
-    while i < vs.len() {
-        let v = vs[i];
-        if limit <= v {
-            out[e] = v >> b;
-            e += 1;
-        }
-        i += 1;
+    let mut j: usize = 0;
+    while j < offs.len() {
+        let i = offs[j] as usize;
+        out[j] = vs[i] >> b;
+        j += 1;
     }
-    e
+    j
 }

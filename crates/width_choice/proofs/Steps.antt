@@ -2,17 +2,19 @@
 -- Assumes nothing.
 use mathlib.Core.Path.{_≡_, refl, sym, ap, ap₂, _∙_}
 use mathlib.Core.Bool.{Bool, true, false}
-use mathlib.Core.List.{List, [], _∷_, _++_, map}
+use mathlib.Core.List.{List, [], _∷_, _++_, map, map-append}
 use Prim.Native.Nat.{ℕ, zero, suc, _+_, _-_, _*_, _/_, _%_, _^_, _≤_, _<_, min, max}
 use native.Mathlib.Nat.{add-zero, zero-add, not-suc-le-zero, suc-add, add-suc, add-assoc}
 use native.Mathlib.Numerals.{add-one}
 use native.Mathlib.Omega.{arith}
 use borrow.Author.Tests.{lt-ltb, le-ltb}
 use lib.Dec.{ltb}
-use lib.ListN.{length, getD, take, drop, drop-of-length-le}
-use lib.Seq.{drop-cons}
+use lib.ListN.{length, getD, set, take, drop, drop-of-length-le}
+use lib.Seq.{drop-cons, take-suc, take-suc-set}
 use Rattle.common.specs.Lists.{keep}
+use Rattle.common.specs.Bytes.{ceil8}
 use Rattle.common.specs.Outcome.{pick}
+use Rattle.width_choice.specs.Over.{over}
 use Rattle.bitmap_spec.specs.Form.{smallest, least, largest, width, wider, cost, cheapest}
 
 pub drop-one : (l : List ℕ) (i : ℕ) → i < length l → drop i l ≡ getD l i 0 ∷ drop (i + 1) l
@@ -31,25 +33,49 @@ pub least-end : (ds : List ℕ) (m i : ℕ) → length ds ≤ i → smallest m (
 unfolding smallest
 least-end ds m i h = rw (drop-of-length-le ds h)
 
-pub widest-step : (vs : List ℕ) (w i n : ℕ) → i < length vs → n ≡ max w (width (getD vs i 0)) → max n (largest (map width (drop (i + 1) vs))) ≡ max w (largest (map width (drop i vs)))
+pub largest-step : (ws : List ℕ) (m i n : ℕ) → i < length ws → n ≡ max m (getD ws i 0)
+    → max n (largest (drop (i + 1) ws)) ≡ max m (largest (drop i ws))
 unfolding largest
-widest-step vs w i n h e = rw (drop-one vs i h, e) (omega arith)
+largest-step ws m i n h e = rw (drop-one ws i h, e) (omega arith)
 
-pub widest-end : (vs : List ℕ) (w i : ℕ) → length vs ≤ i → max w (largest (map width (drop i vs))) ≡ w
+pub largest-end : (ws : List ℕ) (m i : ℕ) → length ws ≤ i → max m (largest (drop i ws)) ≡ m
 unfolding largest
-widest-end vs w i h = rw (drop-of-length-le vs h) (omega arith)
+largest-end ws m i h = rw (drop-of-length-le ws h) (omega arith)
 
-pub wider-on : (vs : List ℕ) (b i : ℕ) → i < length vs → b < width (getD vs i 0) → length (wider b (drop i vs)) ≡ 1 + length (wider b (drop (i + 1) vs))
-unfolding wider keep
-wider-on vs b i h g = rw (drop-one vs i h, lt-ltb _ _ g) (omega arith)
+pub over-on : (ws : List ℕ) (b i : ℕ) → i < length ws → b < getD ws i 0
+    → length (over b (drop i ws)) ≡ 1 + length (over b (drop (i + 1) ws))
+unfolding over keep
+over-on ws b i h g = rw (drop-one ws i h, lt-ltb _ _ g) (omega arith)
 
-pub wider-off : (vs : List ℕ) (b i : ℕ) → i < length vs → width (getD vs i 0) ≤ b → length (wider b (drop i vs)) ≡ length (wider b (drop (i + 1) vs))
-unfolding wider keep
-wider-off vs b i h g = rw (drop-one vs i h, le-ltb _ _ g)
+pub over-off : (ws : List ℕ) (b i : ℕ) → i < length ws → getD ws i 0 ≤ b
+    → length (over b (drop i ws)) ≡ length (over b (drop (i + 1) ws))
+unfolding over keep
+over-off ws b i h g = rw (drop-one ws i h, le-ltb _ _ g)
 
-pub wider-end : (vs : List ℕ) (b i : ℕ) → length vs ≤ i → length (wider b (drop i vs)) ≡ 0
-unfolding wider keep
-wider-end vs b i h = rw (drop-of-length-le vs h)
+pub over-end : (ws : List ℕ) (b i : ℕ) → length ws ≤ i → length (over b (drop i ws)) ≡ 0
+unfolding over keep
+over-end ws b i h = rw (drop-of-length-le ws h)
+
+-- as many widths are over b as values are wider than b
+pub over-wider : (vs : List ℕ) (b : ℕ) → length (over b (map width vs)) ≡ length (wider b vs)
+unfolding over wider keep
+over-wider [] b = refl
+over-wider (v ∷ vs) b = by-test (ltb b (width v)) (over-wider vs b)
+  where
+    by-test : (t : Bool) → length (keep (λ w. ltb b w) (map width vs)) ≡ length (keep (λ x. ltb b (width x)) vs)
+        → length (pick t (width v ∷ keep (λ w. ltb b w) (map width vs)) (keep (λ w. ltb b w) (map width vs)))
+        ≡ length (pick t (v ∷ keep (λ x. ltb b (width x)) vs) (keep (λ x. ltb b (width x)) vs))
+    by-test true e = ap suc e
+    by-test false e = e
+
+-- the cost, by the widths of the values
+pub cost-by : (vs ws : List ℕ) (b e w : ℕ) → ws ≡ map width vs → e ≡ length (over b ws) → w ≡ largest ws
+    → 32 * b + e + ceil8 (e * (w - b)) ≡ cost vs b
+unfolding cost
+cost-by vs ws b e w same count top =
+    let many : e ≡ length (wider b vs) = count ∙ ap (λ l. length (over b l)) same ∙ over-wider vs b in
+    let most : w ≡ largest (map width vs) = top ∙ ap largest same in
+    rw (many, most)
 
 pub cheapest-on : (vs : List ℕ) (b : ℕ) → cost vs (b + 1) < cost vs (cheapest vs b) → cheapest vs (b + 1) ≡ b + 1
 unfolding cheapest
@@ -71,3 +97,9 @@ cheapest-stop vs b (suc k) h =
     let e = cheapest-stop vs b k h in
     let g : cost vs (cheapest vs (b + k)) ≤ cost vs (b + k + 1) = rw e (omega (arith, cost-from vs (b + k + 1))) in
     rw (← add-one k, ← add-assoc b k 1) (cheapest-off vs (b + k) g ∙ e)
+
+-- one width more
+pub widths-turn : (f : ℕ → ℕ) (ds ws : List ℕ) (i x : ℕ) → i < length ds → i < length ws → x ≡ f (getD ds i 0)
+    → take i ws ≡ map f (take i ds) → take (i + 1) (set ws i x) ≡ map f (take (i + 1) ds)
+widths-turn f ds ws i x h room e q =
+    rw (add-one i, take-suc-set ws i x room, take-suc ds i 0 h, map-append f (take i ds) (getD ds i 0 ∷ []), e, q)

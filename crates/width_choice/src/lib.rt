@@ -1,15 +1,30 @@
 // Widths, costs and the choice of the width b1 of a chunk. Inner: no entry point.
 ghost use mathlib.Core.Path.{_≡_};
-ghost use mathlib.Core.List.{map};
-ghost use Prim.Native.Nat.{_+_, _-_, _*_, _^_, _≤_, _<_};
-ghost use lib.ListN.{length};
-ghost use Rattle.bitmap_spec.specs.Form.{width, least, largest, wider, cost, cheapest};
+ghost use mathlib.Core.List.{List, map};
+ghost use Prim.Native.Nat.{ℕ, _+_, _-_, _*_, _≤_, _<_};
+ghost use lib.ListN.{length, getD, take};
+ghost use Rattle.bitmap_spec.specs.Form.{width, least, largest, cost, cheapest};
+ghost use Rattle.width_choice.specs.Over.{over};
 
 // The fewest bits that hold v.
-pub fn width_of(v: u8) -> u32
-    ensures { λ r. ⌜ (r ≡ width v) × (r ≤ 8) ⌝ }
+fn width_of(v: u8) -> u8
+    ensures { λ r. ⌜ r ≡ width v ⌝ }
 {
-    8 - u8::leading_zeros(v)
+    (8 - u8::leading_zeros(v)) as u8
+}
+
+// The width of each descriptor less m, and 0 behind them: each width once, so that counting those over b is a loop over bytes.
+pub fn widths_of(ds: &[u8], m: u8) -> [u8; 256]
+    requires { ⌜ (length (now ds) ≤ 256) × ((i : ℕ) → i < length (now ds) → m ≤ getD (now ds) i 0) ⌝ }
+    ensures { λ r. ⌜ (length r ≡ 256) × (take (length (now (ds .entry))) r ≡ map width (map (λ d. d - m) (now (ds .entry)))) ⌝ }
+{
+    let mut ws = [0u8; 256];
+    let mut i: usize = 0;
+    while i < ds.len() {
+        ws[i] = width_of(ds[i] - m);
+        i += 1;
+    }
+    ws
 }
 
 // The least of the values.
@@ -29,50 +44,32 @@ pub fn least_of(ds: &[u8]) -> u8
     m
 }
 
-// The largest value.
-pub fn largest_of(vs: &[u8]) -> u8
-    ensures { λ r. ⌜ (r ≡ largest (now (vs .entry))) × (width r ≡ largest (map width (now (vs .entry)))) ⌝ }
+// The largest width.
+pub fn largest_of(ws: &[u8]) -> u8
+    ensures { λ r. ⌜ r ≡ largest (now (ws .entry)) ⌝ }
 {
     let mut m: u8 = 0;
     let mut i: usize = 0;
-    while i < vs.len() {
-        let v = vs[i];
-        if m < v {
-            m = v;
+    while i < ws.len() {
+        let w = ws[i];
+        if m < w {
+            m = w;
         }
         i += 1;
     }
     m
 }
 
-// The largest width: that of the largest value.
-pub fn widest(vs: &[u8]) -> u32
-    ensures { λ r. ⌜ (r ≡ largest (map width (now (vs .entry)))) × (r ≤ 8) ⌝ }
+// How many widths are over b: a loop over bytes with no branch.
+pub fn wider_count(ws: &[u8], b: u32) -> usize
+    requires { ⌜ (length (now ws) ≤ 256) × (b ≤ 8) ⌝ }
+    ensures { λ r. ⌜ (r ≡ length (over b (now (ws .entry)))) × (r ≤ length (now (ws .entry))) ⌝ }
 {
-    width_of(largest_of(vs))
-}
-
-// The least value wider than b.
-pub fn limit_of(b: u32) -> u8
-    requires { ⌜ b < 8 ⌝ }
-    ensures { λ r. ⌜ r ≡ 2 ^ b ⌝ }
-{
-    1u8 << b
-}
-
-// How many values are wider than b: a loop over bytes with no branch.
-pub fn wider_count(vs: &[u8], b: u32) -> usize
-    requires { ⌜ length (now vs) ≤ 256 ⌝ }
-    ensures { λ r. ⌜ (r ≡ length (wider b (now (vs .entry)))) × (r ≤ length (now (vs .entry))) ⌝ }
-{
-    if 8 <= b {
-        return 0;
-    }
-    let limit = limit_of(b);
+    let narrow = b as u8;
     let mut e: u16 = 0;
     let mut i: usize = 0;
-    while i < vs.len() {
-        if limit <= vs[i] {
+    while i < ws.len() {
+        if narrow < ws[i] {
             e += 1;
         }
         i += 1;
@@ -80,22 +77,22 @@ pub fn wider_count(vs: &[u8], b: u32) -> usize
     e as usize
 }
 
-// The cost of the width b, where w is the largest width.
-pub fn cost_of(vs: &[u8], w: u32, b: u32) -> usize
-    requires { ⌜ (length (now vs) ≤ 256) × (w ≡ largest (map width (now vs))) × (w ≤ 8) × (b ≤ w) ⌝ }
-    ensures { λ r. ⌜ r ≡ cost (now (vs .entry)) b ⌝ }
+// The cost of the width b for values of these widths, where w is the largest.
+fn cost_of(ws: &[u8], w: u32, b: u32) -> usize
+    requires { ⌜ (length (now ws) ≤ 256) × (w ≡ largest (now ws)) × (w ≤ 8) × (b ≤ w) ⌝ }
+    ensures { λ r. ⌜ ((vs : List ℕ) → now (ws .entry) ≡ map width vs → r ≡ cost vs b) ⌝ }
 {
-    let e = wider_count(vs, b);
+    let e = wider_count(ws, b);
     32 * (b as usize) + e + (e * ((w - b) as usize) + 7) / 8
 }
 
-// The width of least cost, the smaller on a tie.
-pub fn cheapest_of(vs: &[u8], w: u32) -> u32
-    requires { ⌜ (length (now vs) ≤ 256) × (w ≡ largest (map width (now vs))) × (w ≤ 8) ⌝ }
-    ensures { λ r. ⌜ (r ≡ cheapest (now (vs .entry)) w) × (r ≤ w) ⌝ }
+// The width of least cost for values of these widths, the smaller on a tie.
+pub fn cheapest_of(ws: &[u8], w: u32) -> u32
+    requires { ⌜ (length (now ws) ≤ 256) × (w ≡ largest (now ws)) × (w ≤ 8) ⌝ }
+    ensures { λ r. ⌜ ((vs : List ℕ) → now (ws .entry) ≡ map width vs → r ≡ cheapest vs w) × (r ≤ w) ⌝ }
 {
     let mut best: u32 = 0;
-    let mut least = cost_of(vs, w, 0);
+    let mut least = cost_of(ws, w, 0);
     let mut b: u32 = 0;
     while b < w {
         // a larger width costs at least 32 for each bit
@@ -103,7 +100,7 @@ pub fn cheapest_of(vs: &[u8], w: u32) -> u32
             return best;
         }
         b += 1;
-        let c = cost_of(vs, w, b);
+        let c = cost_of(ws, w, b);
         if c < least {
             best = b;
             least = c;

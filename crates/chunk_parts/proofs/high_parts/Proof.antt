@@ -1,70 +1,78 @@
--- The parts so far are written. A value is an exception exactly if it is at least 2 ^ b (Limits).
+-- The parts so far are written: the bits above b of the value at each offset.
 -- Assumes nothing.
-use mathlib.Core.Logic.{⊎-elim}
-use lib.ListN.{length-set}
+use mathlib.Core.List.{map}
+use Prim.Native.Nat.{_/_, _^_, ℕ, zero, suc, _+_, _-_, _*_, _≤_, _<_}
+use lib.ListN.{take, length-set, length, getD}
 use Rattle.bitmap_spec.specs.Output.{written}
-use Rattle.bitmap_laws.proofs.Output.{written-none}
-use Rattle.width_choice.proofs.Limits.{wide-from, wide-under}
-use Rattle.chunk_parts.proofs.Turns.{offs-few, offs-none, parts-none, part-front, part-off}
-use Rattle.chunk_parts.specs.Kept.{offsets, parts}
-use mathlib.Core.Path.{_≡_, refl, ap, _∙_}
-use Prim.Native.Nat.{_-_, _≤_, _<_}
+use Rattle.chunk_parts.proofs.Turns.{map-start, front-turn, map-end}
+use borrow.Author.Needs.{needs}
+use mathlib.Core.Path.{_≡_, refl, sym, ap, _∙_}
 use native.Mathlib.Omega.{arith}
-use lib.ListN.{length, getD}
 use Rattle.chunk_parts.proofs.high_parts.Statement.{statement}
 use Rattle.chunk_parts.proofs.high_parts.Tie as tie
 
 abbrev Inv-loop : tie.InvT-loop
-Inv-loop vs b out₀ limit e₀ i₀ out e i = (i ≤ length vs) × (length out ≡ length out₀) × (e ≡ length (offsets vs b i)) × (out ≡ written out₀ 0 (parts vs b i))
+Inv-loop vs b offs out₀ j₀ out j =
+    (j ≤ length offs) × (length out ≡ length out₀) × (out ≡ written out₀ 0 (map (λ i. getD vs i 0 / 2 ^ b) (take j offs)))
 
 abbrev μ-loop : tie.MeasureT-loop
-μ-loop vs b out₀ limit e₀ i₀ out e i = length vs - i
-
-limit-of-requires : tie.Need-limit-of-requires Inv-loop μ-loop
-limit-of-requires c κs = omega arith
+μ-loop vs b offs out₀ j₀ out j = length offs - j
 
 loop-holds : tie.Need-loop-holds Inv-loop μ-loop
-loop-holds c = (omega arith, refl, rw (offs-none (c .before .before .before .args .vs .now) (c .before .before .before .args .b)), rw (parts-none (c .before .before .before .args .vs .now) (c .before .before .before .args .b)) (written-none (c .before .before .before .args .out .now) 0))
+loop-holds c = (
+  omega arith,
+  refl,
+  map-start (λ i. getD (c .args .vs .now) i 0 / 2 ^ c .args .b) (c .args .offs .now) (c .args .out .now) 0,
+)
 
-shared-slice-read-v : tie.Need-shared-slice-read-v Inv-loop μ-loop
-shared-slice-read-v c = omega arith
+shared-slice-read-i : tie.Need-shared-slice-read-i Inv-loop μ-loop
+shared-slice-read-i c = search needs
+
+cast-i : tie.Need-cast-i Inv-loop μ-loop
+cast-i c = omega (arith, c .shared-slice-known .given (c .before .before .loop .j))
+
+shared-slice-read-out : tie.Need-shared-slice-read-out Inv-loop μ-loop
+shared-slice-read-out c =
+    let pre = c .before .before .before .before .pre in
+    let loop = c .before .before .before .loop in
+    pre .2 (loop .j) (omega arith)
 
 cast-out : tie.Need-cast-out Inv-loop μ-loop
-cast-out c = omega arith
+cast-out c = search needs
 
 shr-out : tie.Need-shr-out Inv-loop μ-loop
-shr-out c = omega arith
+shr-out c = search needs
 
 slice-write-out : tie.Need-slice-write-out Inv-loop μ-loop
-slice-write-out c = omega (arith, offs-few (c .before .before .before .before .before .before .before .args .vs .now) (c .before .before .before .before .before .before .before .args .b) (c .before .before .before .loop .i))
+slice-write-out c = search needs
 
-add-e : tie.Need-add-e Inv-loop μ-loop
-add-e c = omega (arith, offs-few (c .before .before .before .before .before .before .before .args .vs .now) (c .before .before .before .before .before .before .before .args .b) (c .before .before .before .loop .i))
-
-add-i : tie.Need-add-i Inv-loop μ-loop
-add-i c = omega arith
+add-j : tie.Need-add-j Inv-loop μ-loop
+add-j c = search needs
 
 loop-less : tie.Need-loop-less Inv-loop μ-loop
-loop-less c = omega arith
+loop-less c = search needs
 
 loop-again : tie.Need-loop-again Inv-loop μ-loop
-loop-again c = let a = c .before .before .before .before .before .before .before .args in
-    let l = c .before .before .before .loop in
-    let v = getD (a .vs .now) (l .i) 0 in
-    let k : v < 256 = omega (arith, c .before .shared-slice-known2 .given (l .i)) in
-    ⊎-elim
-    (λ w. let r = part-front (a .vs .now) (a .b) (a .out .now) (l .out) 0 (l .i) (l .e) (l .inv .2) (l .inv .3) (wide-from v (a .b) k (omega (arith, w .0 .taken, c .before .before .before .before .limit-of .ensures))) refl (omega (arith, offs-few (a .vs .now) (a .b) (l .i))) in
-    (omega arith, ap length (w .1) ∙ length-set (l .out) (l .e) _ ∙ l .inv .1, w .2 ∙ r .0, w .1 ∙ r .1))
-    (λ w. let r = part-off (a .vs .now) (a .b) (a .out .now) (l .out) 0 (l .i) (l .e) (l .inv .2) (l .inv .3) (wide-under v (a .b) k (omega (arith, w .0 .left, c .before .before .before .before .limit-of .ensures))) in
-    (omega arith, ap length (w .1) ∙ l .inv .1, w .2 ∙ r .0, w .1 ∙ r .1)) (c .if1 .came)
+loop-again c =
+    let a = c .before .before .before .before .args in
+    let l = c .before .before .before .loop in (
+      omega arith,
+      length-set (l .out) (l .j) _ ∙ l .inv .1,
+      front-turn (λ i. getD (a .vs .now) i 0 / 2 ^ a .b) (a .offs .now) (a .out .now) (l .out) (l .j) _ (omega arith)
+          (omega arith) refl (l .inv .2),
+    )
 
 same-length : tie.Need-same-length Inv-loop μ-loop
 same-length c = c .before .loop .inv .1
 
 returns : tie.Need-returns Inv-loop μ-loop
-returns c = let l = c .before .loop in
-    let e : l .i ≡ length (c .before .before .before .before .before .args .vs .now) = omega arith in
-    (rw e at (l .inv .2), rw e at (l .inv .3))
+returns c =
+    let a = c .before .before .args in
+    let l = c .before .loop in
+    let end : l .j ≡ length (a .offs .now) = omega arith in (
+      end,
+      map-end (λ i. getD (a .vs .now) i 0 / 2 ^ a .b) (a .offs .now) (a .out .now) (l .out) 0 (l .j) end (l .inv .2),
+    )
 
 pub high-parts-spec : {M : Type 1} → statement M
 high-parts-spec =
@@ -72,14 +80,14 @@ high-parts-spec =
     (tie.spec
     Inv-loop
     μ-loop
-    limit-of-requires
     loop-holds
-    shared-slice-read-v
+    shared-slice-read-i
+    cast-i
+    shared-slice-read-out
     cast-out
     shr-out
     slice-write-out
-    add-e
-    add-i
+    add-j
     loop-less
     loop-again
     same-length

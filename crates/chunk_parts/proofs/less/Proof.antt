@@ -25,7 +25,9 @@ shared-slice-read-vs : tie.Need-shared-slice-read-vs Inv-loop μ-loop
 shared-slice-read-vs c = omega arith
 
 sub-vs : tie.Need-sub-vs Inv-loop μ-loop
-sub-vs c = c .before .before .before .pre .1 (c .before .before .loop .i) (omega arith)
+sub-vs c =
+    let pre = c .before .before .before .pre in
+    pre .1 (c .before .before .loop .i) (omega arith)
 
 slice-write-vs : tie.Need-slice-write-vs Inv-loop μ-loop
 slice-write-vs c = omega arith
@@ -39,8 +41,12 @@ loop-less c = omega arith
 loop-again : tie.Need-loop-again Inv-loop μ-loop
 loop-again c =
     let a = c .before .before .before .args in
-    let l = c .before .before .loop in
-    (omega arith, length-set (l .vs) (l .i) _ ∙ l .inv .1, front-turn (λ d. d - a .m) (a .ds .now) (a .vs .now) (l .vs) (l .i) _ (omega arith) (omega arith) refl (l .inv .2))
+    let l = c .before .before .loop in (
+      omega arith,
+      length-set (l .vs) (l .i) _ ∙ l .inv .1,
+      front-turn (λ d. d - a .m) (a .ds .now) (a .vs .now) (l .vs) (l .i) _ (omega arith) (omega arith) refl
+          (l .inv .2),
+    )
 
 same-length : tie.Need-same-length Inv-loop μ-loop
 same-length c = c .before .loop .inv .1

@@ -38,7 +38,8 @@ loop-again c =
     let l = c .before .before .before .loop in (
       omega arith,
       omega arith,
-      least-step (c .before .before .before .before .before .args .ds .now) (l .m) (l .i) (c .if1 .m) (c .before .before .loop-test .taken)
+      least-step (c .before .before .before .before .before .args .ds .now) (l .m) (l .i) (c .if1 .m)
+          (c .before .before .loop-test .taken)
           (⊎-elim (λ w. omega (arith, w)) (λ w. omega (arith, w)) (c .if1 .came)) ∙ l .inv .2,
     )
 
