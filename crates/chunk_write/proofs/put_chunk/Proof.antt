@@ -1,17 +1,17 @@
--- The descriptors less the least are the values of the written chunk.
+-- The descriptors less the least are the values of the written chunk, and their widths are asked once.
 -- Assumes nothing.
 use mathlib.Core.List.{List, map}
-use lib.ListN.{length-map}
+use lib.ListN.{take, length-map, length, getD}
+use Rattle.bitmap_spec.specs.Form.{width}
 use Rattle.bitmap_spec.specs.Output.{written}
 use Rattle.bitmap_laws.proofs.Values.{least-at}
-use Rattle.chunk_write.proofs.Laying.{whole-chunk, whole-size, whole-narrow, whole-zero}
 use Rattle.bitmap_laws.proofs.Output.{taken}
-use Rattle.chunk_write.proofs.put_chunk.Statement.{statement}
-use mathlib.Core.Path.{sym, ap, _∙_}
-use Prim.Native.Nat.{ℕ, _-_}
-use native.Mathlib.Omega.{arith}
-use lib.ListN.{length}
+use Rattle.chunk_write.proofs.Laying.{whole-chunk, whole-size, whole-narrow, whole-zero}
 use borrow.Author.Needs.{needs}
+use mathlib.Core.Path.{_≡_, refl, sym, ap, _∙_}
+use Prim.Native.Nat.{ℕ, zero, suc, _+_, _-_, _*_, _≤_, _<_}
+use native.Mathlib.Omega.{arith}
+use Rattle.chunk_write.proofs.put_chunk.Statement.{statement}
 use Rattle.chunk_write.proofs.put_chunk.Tie as tie
 
 least-of-requires : tie.Need-least-of-requires
@@ -21,32 +21,76 @@ slice-aggregate-less : tie.Need-slice-aggregate-less
 slice-aggregate-less c = search needs
 
 less-requires : tie.Need-less-requires
-less-requires c κs = (omega arith, λ i h. rw (c .before .least-of .ensures) (least-at (c .before .before .before .before .args .ds .now) i h))
+less-requires c κs =
+    let args = c .before .before .before .before .args in
+    (omega arith, λ i h. rw (c .before .least-of .ensures) (least-at (args .ds .now) i h))
+
+widths-of-requires : tie.Need-widths-of-requires
+widths-of-requires c κs =
+    let args = c .before .before .before .before .before .before .args in
+    let least-of = c .before .before .before .least-of in
+    (omega arith, λ i h. rw (least-of .ensures) (least-at (args .ds .now) i h))
 
 array-share-prefix-a : tie.Need-array-share-prefix-a
 array-share-prefix-a c = search needs
 
 slice-aggregate-put-values : tie.Need-slice-aggregate-put-values
-slice-aggregate-put-values c = c .before .before .less .ensures .0 ∙ sym (length-map (c .before .before .before .before .before .before .before .args .ds .now) (λ d. d - c .before .before .before .before .least-of .result)) ∙ sym (ap length (taken _ _ (map (λ d. d - c .before .before .before .before .least-of .result) (c .before .before .before .before .before .before .before .args .ds .now)) (c .before .before .less .result) (c .before .before .less .ensures .1) (c .before .before .less .ensures .0 ∙ sym (length-map (c .before .before .before .before .before .before .before .args .ds .now) (λ d. d - c .before .before .before .before .least-of .result)))))
+slice-aggregate-put-values c =
+    let s = c .before .before .before .before .before .before .before .before in
+    let ds = s .args .ds .now in
+    let m = c .before .before .before .before .before .least-of in
+    let less = c .before .before .before .less in
+    let many = less .ensures .0 ∙ sym (length-map ds (λ d. d - m .result)) in
+    let values = taken _ _ (map (λ d. d - m .result) ds) (less .result) (less .ensures .1) many in
+    many ∙ sym (ap length values)
+
+array-share-prefix-ws : tie.Need-array-share-prefix-ws
+array-share-prefix-ws c = omega (arith, c .before .widths-of .ensures .0)
+
+slice-aggregate-put-values-2 : tie.Need-slice-aggregate-put-values-2
+slice-aggregate-put-values-2 c =
+    let s = c .before .before .before .before .before .before .before .before .before in
+    let ds = s .args .ds .now in
+    let m = c .before .before .before .before .before .before .least-of in
+    let less = c .before .before .before .before .less in
+    let widths = c .before .before .widths-of in
+    let first : take (less .result) (widths .result) ≡ map width (map (λ d. d - m .result) ds) = rw (less .ensures .0) (widths .ensures .1) in
+    sym (ap length first ∙ length-map (map (λ d. d - m .result) ds) width ∙ length-map ds (λ d. d - m .result) ∙ sym (less .ensures .0))
 
 put-values-requires : tie.Need-put-values-requires
 put-values-requires c κs =
-    let s = c .before .before .before .before .before .before .before .before in
-    let t = taken _ _ (map (λ d. d - c .before .before .before .before .before .least-of .result) (c .before .before .before .before .before .before .before .before .args .ds .now)) (c .before .before .before .less .result) (c .before .before .before .less .ensures .1) (c .before .before .before .less .ensures .0 ∙ sym (length-map (c .before .before .before .before .before .before .before .before .args .ds .now) (λ d. d - c .before .before .before .before .before .least-of .result))) in
-    let m = c .before .before .before .before .before .least-of in
-    let n = ap length t ∙ length-map (c .before .before .before .before .before .before .before .before .args .ds .now) (λ d. d - c .before .before .before .before .before .least-of .result) in
-    (rw n (s .pre .1), whole-zero (s .args .ds .now) _ (m .result) (s .pre .0) (m .ensures) t, whole-narrow (s .args .ds .now) _ (m .result) (s .pre .2) t, rw (whole-size (s .args .ds .now) _ (m .result) (m .ensures) t) (s .pre .3))
+    let s = c .before .before .before .before .before .before .before .before .before .before in
+    let ds = s .args .ds .now in
+    let m = c .before .before .before .before .before .before .before .least-of in
+    let less = c .before .before .before .before .before .less in
+    let many = less .ensures .0 ∙ sym (length-map ds (λ d. d - m .result)) in
+    let values = taken _ _ (map (λ d. d - m .result) ds) (less .result) (less .ensures .1) many in
+    let widths = c .before .before .before .widths-of in
+    let first : take (less .result) (widths .result) ≡ map width (map (λ d. d - m .result) ds) = rw (less .ensures .0) (widths .ensures .1) in
+    let long = ap length values ∙ length-map ds (λ d. d - m .result) in (
+      rw long (s .pre .1),
+      first ∙ ap (λ (l : List ℕ). map width l) (sym values),
+      whole-zero ds _ (m .result) (s .pre .0) (m .ensures) values,
+      whole-narrow ds _ (m .result) (s .pre .2) values,
+      rw (whole-size ds _ (m .result) (m .ensures) values) (s .pre .3),
+    )
 
 same-length : tie.Need-same-length
 same-length c = search needs
 
 returns : tie.Need-returns
 returns c =
-    let s = c .before .before .before .before .before .before .before .before .before .before .before in
-    let t = taken _ _ (map (λ d. d - c .before .before .before .before .before .before .before .before .least-of .result) (c .before .before .before .before .before .before .before .before .before .before .before .args .ds .now)) (c .before .before .before .before .before .before .less .result) (c .before .before .before .before .before .before .less .ensures .1) (c .before .before .before .before .before .before .less .ensures .0 ∙ sym (length-map (c .before .before .before .before .before .before .before .before .before .before .before .args .ds .now) (λ d. d - c .before .before .before .before .before .before .before .before .least-of .result))) in
-    let m = c .before .before .before .before .before .before .before .before .least-of in (
-      c .before .before .put-values .ensures .0 ∙ whole-size (s .args .ds .now) _ (m .result) (m .ensures) t,
-      c .before .before .put-values .ensures .1 ∙ ap (λ (l : List ℕ). written (s .args .out .now) (s .args .at) l) (whole-chunk (s .args .ds .now) _ (m .result) (m .ensures) t),
+    let s = c .before .before .before .before .before .before .before .before .before .before .before .before .before in
+    let ds = s .args .ds .now in
+    let m = c .before .before .before .before .before .before .before .before .before .before .least-of in
+    let less = c .before .before .before .before .before .before .before .before .less in
+    let many = less .ensures .0 ∙ sym (length-map ds (λ d. d - m .result)) in
+    let values = taken _ _ (map (λ d. d - m .result) ds) (less .result) (less .ensures .1) many in
+    let put = c .before .before .put-values in (
+      put .ensures .0 ∙ whole-size ds _ (m .result) (m .ensures) values,
+      put .ensures .1
+          ∙ ap (λ (l : List ℕ). written (s .args .out .now) (s .args .at) l)
+          (whole-chunk ds _ (m .result) (m .ensures) values),
     )
 
 pub put-chunk-spec : {M : Type 1} → statement M
@@ -56,8 +100,11 @@ put-chunk-spec =
     least-of-requires
     slice-aggregate-less
     less-requires
+    widths-of-requires
     array-share-prefix-a
     slice-aggregate-put-values
+    array-share-prefix-ws
+    slice-aggregate-put-values-2
     put-values-requires
     same-length
     returns)

@@ -16,7 +16,13 @@ same-length : tie.Need-same-length
 same-length c = search needs
 
 returns : tie.Need-returns
-returns c = (c .before .before .put-packed .ensures .0, c .before .before .put-packed .ensures .1 ∙ ap (λ (l : List ℕ). written (c .before .before .before .before .before .before .args .out .now) (c .before .before .before .before .before .before .args .at) l) (low-packed (c .before .before .before .before .before .before .args .vs .now) (c .before .before .before .before .before .before .args .b)))
+returns c =
+    let args = c .before .before .before .before .before .before .args in
+    let put-packed = c .before .before .put-packed in (
+      put-packed .ensures .0,
+      put-packed .ensures .1 ∙ ap (λ (l : List ℕ). written (args .out .now) (args .at) l)
+          (low-packed (args .vs .now) (args .b)),
+    )
 
 pub put-low-spec : {M : Type 1} → statement M
 put-low-spec = tie.close (tie.spec put-packed-requires same-length returns)
