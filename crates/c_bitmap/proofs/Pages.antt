@@ -1,5 +1,4 @@
--- What the answer of a page says of its outcome, and so of the memory that the call leaves.
--- Assumes nothing.
+-- What the answer of a page says of its outcome, and so of the memory that the call leaves. Assumes nothing.
 use mathlib.Core.Path.{_≡_, refl, sym, ap, _∙_}
 use mathlib.Core.Bool.{Bool, true, false}
 use mathlib.Core.List.{List, [], _∷_}
@@ -17,30 +16,32 @@ use Rattle.bitmap_spec.specs.declared.Listing.{Listing}
 use Rattle.bitmap_list.specs.Post.{Pages, Stand, paged, standOf, listAfter}
 use Rattle.bitmap_list.specs.declared.Paged.{Paged}
 use Rattle.bitmap_list.specs.declared.Paged.the-variants as paging
-use Rattle.c_bitmap.specs.Reading.{turned, PageCall}
+use Rattle.c_bitmap.specs.Reading.{Memory, turned, PageCall}
 
-module _ (o : Outcome Page) (before after : List ℕ) (r : Paged) (h : Pages o before after r) (given place mark : ℕ) where
+module _ {o : Outcome Page} {after : List ℕ} {r : Paged} (m : Memory) (h : Pages o (m .list) after r) where
   pub refused-page : (n : ℕ) → r ≡ paging.Refused n
-      → PageCall o n (record { list = before; given = given; place = place; mark = mark }) (record { list = after; given = given; place = place; mark = mark })
-  unfolding standOf listAfter turned
+      → PageCall o n m (record { list = after; given = m .given; place = m .place; mark = m .mark })
+  unfolding standOf listAfter
   refused-page n e = go o (sym (ap paged e) ∙ h .says) (h .holds)
     where
-      go : (o : Outcome Page) → refused n ≡ standOf o → after ≡ listAfter o before
-          → PageCall o n (record { list = before; given = given; place = place; mark = mark }) (record { list = after; given = given; place = place; mark = mark })
-      go (refused m) q a = let z : n ≡ m = cc in record { says = z; holds = rw a }
+      go : (o : Outcome Page) → refused n ≡ standOf o → after ≡ listAfter o (m .list)
+          → PageCall o n m (record { list = after; given = m .given; place = m .place; mark = m .mark })
+      go (refused k) q a = let z : n ≡ k = cc in record { says = z; holds = rw a }
       go (found p) q a = absurd (let z : _≡_ {A = ℕ} 0 1 = cc in omega arith)
 
-  pub page-given : (g mark′ : ℕ) (at : Listing) → r ≡ paging.Page g at → mark′ ≡ pick (eqb mark 0) (one (at .finished)) mark
-      → PageCall o 0 (record { list = before; given = given; place = place; mark = mark }) (record { list = after; given = g; place = at .place; mark = mark′ })
+  pub page-given : (g mark : ℕ) (at : Listing) → r ≡ paging.Page g at
+      → mark ≡ pick (eqb (m .mark) 0) (one (at .finished)) (m .mark)
+      → PageCall o 0 m (record { list = after; given = g; place = at .place; mark = mark })
   unfolding standOf listAfter turned
-  page-given g mark′ at e m = go o (sym (ap paged e) ∙ h .says) (h .holds)
+  page-given g mark at e k = go o (sym (ap paged e) ∙ h .says) (h .holds)
     where
-      go : (o : Outcome Page) → found (record { given = g; next = at }) ≡ standOf o → after ≡ listAfter o before
-          → PageCall o 0 (record { list = before; given = given; place = place; mark = mark }) (record { list = after; given = g; place = at .place; mark = mark′ })
+      go : (o : Outcome Page) → found (record { given = g; next = at }) ≡ standOf o → after ≡ listAfter o (m .list)
+          → PageCall o 0 m (record { list = after; given = g; place = at .place; mark = mark })
       go (refused n) q a = absurd (let z : _≡_ {A = ℕ} 0 1 = cc in omega arith)
       go (found p) q a =
-          let z : _≡_ {A = Stand} (record { given = g; next = at }) (record { given = length (p .given); next = p .next }) = cc in
-          record { says = refl; holds = rw (a, m, ap (λ (q : Stand). q .given) z, ap (λ (q : Stand). q .next) z) }
+          let z : _≡_ {A = Stand} (record { given = g; next = at })
+          (record { given = length (p .given); next = p .next }) = cc in
+          record { says = refl; holds = rw (a, k, ap (λ (q : Stand). q .given) z, ap (λ (q : Stand). q .next) z) }
 
 -- ---- a page gives few members: those of a set
 keep-le : (f : ℕ → Bool) (l : List ℕ) → length (keep f l) ≤ length l
@@ -56,16 +57,25 @@ given-le : (l : List ℕ) (at : Listing) (room : ℕ) → length (pageIn l at ro
 unfolding pageIn pageOf atOrAbove
 given-le l at room = go (at .finished)
   where
-    go : (b : Bool) → length (pick b (record { given = []; next = at }) (pageOf l (at .place) (take room (keep (λ x. leb (at .place) x) l))) .given) ≤ length l
-    go true = omega arith
-    go false = omega (arith, keep-le (λ x. leb (at .place) x) l, length-take room (keep (λ x. leb (at .place) x) l))
+    above : List ℕ
+    above = keep (λ x. leb (at .place) x) l
 
-pub page-few : (s : List ℕ) (at : Listing) (room n : ℕ) (next : Listing) → found (record { given = n; next = next }) ≡ standOf (page s at room) → n ≤ 2097152
+    go : (b : Bool)
+        → length (pick b (record { given = []; next = at }) (pageOf l (at .place) (take room above)) .given) ≤ length l
+    go true = omega arith
+    go false = omega (arith, keep-le (λ x. leb (at .place) x) l, length-take room above)
+
+pub page-few : (s : List ℕ) (at : Listing) (room n : ℕ) (next : Listing)
+    → found (record { given = n; next = next }) ≡ standOf (page s at room) → n ≤ 2097152
 unfolding page standOf
 page-few s at room n next e = go (judge s) refl e
   where
-    go : (o : Outcome (List ℕ)) → judge s ≡ o → found (record { given = n; next = next }) ≡ standOf (then o (λ l. found (pageIn l at room))) → n ≤ 2097152
+    go : (o : Outcome (List ℕ)) → judge s ≡ o
+        → found (record { given = n; next = next }) ≡ standOf (then o (λ l. found (pageIn l at room))) → n ≤ 2097152
     go (refused m) q f = absurd (let z : _≡_ {A = ℕ} 0 1 = cc in omega arith)
     go (found l) q f =
-        let z : _≡_ {A = Stand} (record { given = n; next = next }) (record { given = length (pageIn l at room .given); next = pageIn l at room .next }) = cc in
-        omega (arith, ap (λ (s : Stand). s .given) z, given-le l at room, rising-length 2097152 0 l (omega arith) (judge-set s l q))
+        let p = pageIn l at room in
+        let z : _≡_ {A = Stand} (record { given = n; next = next })
+        (record { given = length (p .given); next = p .next }) = cc in
+        let few = rising-length 2097152 0 l (omega arith) (judge-set s l q) in
+        omega (arith, ap (λ (s : Stand). s .given) z, given-le l at room, few)

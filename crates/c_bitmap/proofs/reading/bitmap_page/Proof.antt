@@ -3,9 +3,8 @@ use mathlib.Core.Path.{sym, ap, _∙_}
 use native.Mathlib.Omega.{arith}
 use Rattle.bitmap_list.specs.Post.{paged}
 use borrow.Author.Tests.{eq-eqb, ne-eqb}
-use Prim.Native.Nat.{_-_}
 use borrow.Author.Needs.{needs}
-use Rattle.c_bitmap.specs.Reading.{listing}
+use Rattle.c_bitmap.specs.Reading.{listing, Memory}
 use Rattle.c_bitmap.proofs.Pages.{refused-page, page-given, page-few}
 use Rattle.c_bitmap.proofs.reading.bitmap_page.Statement.{statement}
 use Rattle.c_bitmap.proofs.reading.bitmap_page.Tie as tie
@@ -33,8 +32,10 @@ returns : tie.Need-returns
 unfolding listing
 returns c =
     let a = c .before .before .before .before .before .before .before .before .before .before .before .args in
-    refused-page _ (a .list .now) _ _ (c .before .before .before .before .before .page .ensures) (a .given .now)
-    (a .place .now) (a .finished .now) _ (c .before .r .given .1)
+    let m : Memory =
+    record { list = a .list .now; given = a .given .now; place = a .place .now; mark = a .finished .now } in
+    let page = c .before .before .before .before .before .page in
+    refused-page m (page .ensures) _ (c .before .r .given .1)
 
 same-length-2 : tie.Need-same-length-2
 same-length-2 c = search needs
@@ -42,10 +43,13 @@ same-length-2 c = search needs
 returns-2 : tie.Need-returns-2
 unfolding listing
 returns-2 c =
-    let a = c .before .before .before .before .before .before .before .before .before .before .before .before .before .args in
-    page-given _ (a .list .now) _ _ (c .before .before .before .before .before .before .before .page .ensures)
-    (a .given .now) (a .place .now) (a .finished .now) _ 1 _ (c .before .before .before .n .given .1)
-    (rw (eq-eqb (a .finished .now) 0 (c .before .if1 .taken), c .if2 .taken))
+    let a =
+    c .before .before .before .before .before .before .before .before .before .before .before .before .before .args in
+    let m : Memory =
+    record { list = a .list .now; given = a .given .now; place = a .place .now; mark = a .finished .now } in
+    let page = c .before .before .before .before .before .before .before .page in
+    page-given m (page .ensures) _ 1 _ (c .before .before .before .n .given .1)
+    (rw (eq-eqb (m .mark) 0 (c .before .if1 .taken), c .if2 .taken))
 
 same-length-3 : tie.Need-same-length-3
 same-length-3 c = search needs
@@ -53,10 +57,13 @@ same-length-3 c = search needs
 returns-3 : tie.Need-returns-3
 unfolding listing
 returns-3 c =
-    let a = c .before .before .before .before .before .before .before .before .before .before .before .before .before .args in
-    page-given _ (a .list .now) _ _ (c .before .before .before .before .before .before .before .page .ensures)
-    (a .given .now) (a .place .now) (a .finished .now) _ 0 _ (c .before .before .before .n .given .1)
-    (rw (eq-eqb (a .finished .now) 0 (c .before .if1 .taken), c .if2 .left))
+    let a =
+    c .before .before .before .before .before .before .before .before .before .before .before .before .before .args in
+    let m : Memory =
+    record { list = a .list .now; given = a .given .now; place = a .place .now; mark = a .finished .now } in
+    let page = c .before .before .before .before .before .before .before .page in
+    page-given m (page .ensures) _ 0 _ (c .before .before .before .n .given .1)
+    (rw (eq-eqb (m .mark) 0 (c .before .if1 .taken), c .if2 .left))
 
 same-length-4 : tie.Need-same-length-4
 same-length-4 c = search needs
@@ -65,9 +72,10 @@ returns-4 : tie.Need-returns-4
 unfolding listing
 returns-4 c =
     let a = c .before .before .before .before .before .before .before .before .before .before .before .before .args in
-    page-given _ (a .list .now) _ _ (c .before .before .before .before .before .before .page .ensures) (a .given .now)
-    (a .place .now) (a .finished .now) _ (a .finished .now) _ (c .before .before .n .given .1)
-    (rw (ne-eqb (a .finished .now) 0 (c .if1 .left)))
+    let m : Memory =
+    record { list = a .list .now; given = a .given .now; place = a .place .now; mark = a .finished .now } in
+    let page = c .before .before .before .before .before .before .page in
+    page-given m (page .ensures) _ (m .mark) _ (c .before .before .n .given .1) (rw (ne-eqb (m .mark) 0 (c .if1 .left)))
 
 pub bitmap-page-spec : {M : Type 1} → statement M
 bitmap-page-spec =

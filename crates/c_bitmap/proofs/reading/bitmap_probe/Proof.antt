@@ -1,6 +1,5 @@
 -- The answer's two cases are the outcome's two cases; yes is written as 1. Assumes nothing.
-use mathlib.Core.Path.{refl, sym, ap, _∙_}
-use Prim.Native.Nat.{_-_}
+use mathlib.Core.Path.{sym, ap, _∙_}
 use borrow.Author.Needs.{needs}
 use Rattle.bitmap_read.specs.Post.{probed}
 use Rattle.common.specs.Outcome.{one}

@@ -1,6 +1,5 @@
 -- The answer's two cases are the outcome's two cases. Assumes nothing.
 use mathlib.Core.Path.{refl, sym, ap, _∙_}
-use Prim.Native.Nat.{_-_}
 use borrow.Author.Needs.{needs}
 use Rattle.bitmap_read.specs.Post.{ranked}
 use Rattle.common.proofs.Calls.{refused-call, found-call}

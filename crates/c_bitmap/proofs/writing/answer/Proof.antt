@@ -2,7 +2,6 @@
 use Rattle.bitmap_spec.specs.Output.{said}
 use Rattle.common.proofs.Calls.{refused-call, found-call}
 use mathlib.Core.Path.{refl, sym, ap}
-use Prim.Native.Nat.{_-_}
 use borrow.Author.Needs.{needs}
 use Rattle.c_bitmap.proofs.writing.answer.Statement.{statement}
 use Rattle.c_bitmap.proofs.writing.answer.Tie as tie

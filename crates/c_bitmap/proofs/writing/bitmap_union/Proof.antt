@@ -1,7 +1,5 @@
--- The call's answer and output are the outcome's.
--- Assumes nothing.
+-- The call's answer and output are the outcome's. Assumes nothing.
 use Rattle.c_bitmap.proofs.Writes.{answered}
-use Prim.Native.Nat.{_-_}
 use borrow.Author.Needs.{needs}
 use Rattle.c_bitmap.proofs.writing.bitmap_union.Statement.{statement}
 use Rattle.c_bitmap.proofs.writing.bitmap_union.Tie as tie

@@ -2,7 +2,7 @@
 use mir.Facts.{toZ-ofZ}
 use mir.Syntax.{w64}
 use Rattle.row_spec.specs.Answer.{fieldOutcome}
-use mathlib.Core.Path.{sym, ap, _∙_}
+use mathlib.Core.Path.{sym, ap}
 use borrow.Author.Needs.{needs}
 use Rattle.common.proofs.Calls.{refused-call, found-call}
 use Rattle.c_table.proofs.fields.set_field.Statement.{statement}
