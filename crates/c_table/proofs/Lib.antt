@@ -1,1 +1,2 @@
 mod Bools
+mod Answers

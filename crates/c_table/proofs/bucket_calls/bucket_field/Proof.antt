@@ -1,5 +1,6 @@
 -- The answer is the definition's, and set_field hands it on. Assumes nothing.
 use borrow.Author.Needs.{needs}
+use Rattle.c_table.proofs.Answers.{handed-on}
 use Rattle.c_table.proofs.bucket_calls.bucket_field.Statement.{statement}
 use Rattle.c_table.proofs.bucket_calls.bucket_field.Tie as tie
 
@@ -12,7 +13,7 @@ set-field-requires c κs = search needs
 returns : tie.Need-returns
 returns c =
     let field = c .before .before .before .before .before .before .before .field in
-    rw (← field .ensures) (c .set-field .ensures)
+    handed-on (field .ensures) (c .set-field .ensures)
 
 pub bucket-field-spec : {M : Type 1} → statement M
 bucket-field-spec = tie.close (tie.spec field-requires set-field-requires returns)
