@@ -1,6 +1,7 @@
 // Buckets: the whole bucket is judged, then a question is answered from the asked column's pieces.
 ghost use mathlib.Core.Path.{_≡_};
-ghost use Rattle.row_spec.specs.Answer.{refusal, fieldOutcome, VeryPart};
+ghost use Rattle.common.specs.Outcome.{status};
+ghost use Rattle.row_spec.specs.Answer.{fieldOutcome, VeryPart};
 ghost use Rattle.bucket_spec.specs.Bucket.{bucketRefusal, bucketField};
 use row_spec::FieldAnswer;
 
@@ -8,7 +9,7 @@ mod ask;
 
 // Whether a bucket of so many rows is sound: 0, or its refusal.
 pub fn check(schema_bytes: &[u8], rows: u32, bucket: &[u8]) -> u32
-    ensures { λ r. ⌜ r ≡ refusal (bucketRefusal (now («schema_bytes» .entry)) rows (now (bucket .entry))) ⌝ }
+    ensures { λ r. ⌜ r ≡ status (bucketRefusal (now («schema_bytes» .entry)) rows (now (bucket .entry))) ⌝ }
 {
     let read = schema::read(schema_bytes);
     let refused = read.refused;

@@ -1,55 +1,31 @@
 // Reading bitmaps.
-ghost use mathlib.Core.Path.{_≡_};
 ghost use lib.ListN.{length};
+ghost use Rattle.common.specs.Outcome.{Call, CountCall, one};
 ghost use Rattle.bitmap_spec.specs.Ask as ask;
-ghost use Rattle.c_api.specs.Status.{status, outcome};
-ghost use Rattle.c_api.specs.BitmapRead.{asByte, listing, PageCall};
-use bitmap_list::Paged;
-use bitmap_read::Checked;
-use bitmap_read::Probed;
-use bitmap_read::Ranked;
-use bitmap_spec::Listing;
+ghost use Rattle.c_bitmap.specs.Reading.{listing, PageCall};
 
 // Judges the bitmap and gives its cardinality.
 #[no_mangle]
 pub extern "C" fn bv_bitmap_check(bytes: &[u8], cardinality: &mut u32) -> u32
-    ensures { λ r. ⌜ (r ≡ status (ask.check (now (bytes .entry)))) × (now (cardinality .exit) ≡ outcome (ask.check (now (bytes .entry))) (now (cardinality .entry))) ⌝ }
+    ensures { λ r. ⌜ CountCall (ask.check (now (bytes .entry))) r (now (cardinality .entry)) (now (cardinality .exit)) ⌝ }
 {
-    match bitmap_read::check(bytes) {
-        Checked::Refused(r) => r,
-        Checked::Cardinality(n) => {
-            *cardinality = n;
-            0
-        }
-    }
+    c_bitmap::bitmap_check(bytes, cardinality)
 }
 
 // Whether the position is a member: 0 or 1.
 #[no_mangle]
 pub extern "C" fn bv_bitmap_probe(bytes: &[u8], position: u32, member: &mut u8) -> u32
-    ensures { λ r. ⌜ (r ≡ status (ask.probe (now (bytes .entry)) position)) × (now (member .exit) ≡ outcome (asByte (ask.probe (now (bytes .entry)) position)) (now (member .entry))) ⌝ }
+    ensures { λ r. ⌜ Call (ask.probe (now (bytes .entry)) position) one r (now (member .entry)) (now (member .exit)) ⌝ }
 {
-    match bitmap_read::probe(bytes, position) {
-        Probed::Refused(r) => r,
-        Probed::Member(b) => {
-            *member = if b { 1 } else { 0 };
-            0
-        }
-    }
+    c_bitmap::bitmap_probe(bytes, position, member)
 }
 
 // How many members lie below the position.
 #[no_mangle]
 pub extern "C" fn bv_bitmap_rank(bytes: &[u8], position: u32, below: &mut u32) -> u32
-    ensures { λ r. ⌜ (r ≡ status (ask.rank (now (bytes .entry)) position)) × (now (below .exit) ≡ outcome (ask.rank (now (bytes .entry)) position) (now (below .entry))) ⌝ }
+    ensures { λ r. ⌜ CountCall (ask.rank (now (bytes .entry)) position) r (now (below .entry)) (now (below .exit)) ⌝ }
 {
-    match bitmap_read::rank(bytes, position) {
-        Ranked::Refused(r) => r,
-        Ranked::Below(n) => {
-            *below = n;
-            0
-        }
-    }
+    c_bitmap::bitmap_rank(bytes, position, below)
 }
 
 // A page of members into the list; place and mark say where the listing stands.
@@ -65,20 +41,5 @@ pub extern "C" fn bv_bitmap_page(
         (record { list = now (list .entry); given = now (given .entry); place = now (place .entry); mark = now (finished .entry) })
         (record { list = now (list .exit); given = now (given .exit); place = now (place .exit); mark = now (finished .exit) }) ⌝ }
 {
-    let was = *finished;
-    let at = Listing {
-        place: *place,
-        finished: was != 0,
-    };
-    match bitmap_list::page(bytes, at, list) {
-        Paged::Refused(r) => r,
-        Paged::Page { given: n, next } => {
-            *given = n as u32;
-            *place = next.place;
-            if was == 0 {
-                *finished = if next.finished { 1 } else { 0 };
-            }
-            0
-        }
-    }
+    c_bitmap::bitmap_page(bytes, place, finished, list, given)
 }

@@ -1,30 +1,15 @@
 // Writing and combining bitmaps.
-ghost use mathlib.Core.Path.{_≡_};
 ghost use lib.ListN.{length};
 ghost use Rattle.bitmap_spec.specs.Output.{write, called};
 ghost use Rattle.bitmap_spec.specs.declared.Operation.the-variants.{Union, Intersection, Difference, SymmetricDifference};
-ghost use Rattle.c_api.specs.BitmapWrite.{WriteCall, Answered};
-use bitmap_spec::Written;
-
-// The answer of a writing call as a status; the length is set where there is one.
-fn answer(w: Written, size: &mut usize) -> u32
-    ensures { λ r. ⌜ Answered w r (now (size .entry)) (now (size .exit)) ⌝ }
-{
-    match w {
-        Written::Refused(r) => r,
-        Written::Length(n) => {
-            *size = n;
-            0
-        }
-    }
-}
+ghost use Rattle.c_bitmap.specs.Writing.{WriteCall};
 
 // Writes the form of the listed positions.
 #[no_mangle]
 pub extern "C" fn bv_bitmap_write(positions: &[u32], out: &mut [u8], size: &mut usize) -> u32
     ensures { λ r. ⌜ WriteCall (write (now (positions .entry)) (length (now (out .entry)))) r (now (out .entry)) (now (out .exit)) (now (size .entry)) (now (size .exit)) ⌝ }
 {
-    answer(bitmap_write::write_list(positions, out), size)
+    c_bitmap::bitmap_write(positions, out, size)
 }
 
 // Writes the positions that are in at least one of the two bitmaps.
@@ -32,7 +17,7 @@ pub extern "C" fn bv_bitmap_write(positions: &[u32], out: &mut [u8], size: &mut 
 pub extern "C" fn bv_bitmap_union(a: &[u8], b: &[u8], out: &mut [u8], size: &mut usize) -> u32
     ensures { λ r. ⌜ WriteCall (called Union (now (a .entry)) (now (b .entry)) (length (now (out .entry)))) r (now (out .entry)) (now (out .exit)) (now (size .entry)) (now (size .exit)) ⌝ }
 {
-    answer(bitmap_combine::union(a, b, out), size)
+    c_bitmap::bitmap_union(a, b, out, size)
 }
 
 // Writes the positions that are in both bitmaps.
@@ -45,7 +30,7 @@ pub extern "C" fn bv_bitmap_intersection(
 ) -> u32
     ensures { λ r. ⌜ WriteCall (called Intersection (now (a .entry)) (now (b .entry)) (length (now (out .entry)))) r (now (out .entry)) (now (out .exit)) (now (size .entry)) (now (size .exit)) ⌝ }
 {
-    answer(bitmap_combine::intersection(a, b, out), size)
+    c_bitmap::bitmap_intersection(a, b, out, size)
 }
 
 // Writes the positions that are in the first bitmap alone.
@@ -53,7 +38,7 @@ pub extern "C" fn bv_bitmap_intersection(
 pub extern "C" fn bv_bitmap_difference(a: &[u8], b: &[u8], out: &mut [u8], size: &mut usize) -> u32
     ensures { λ r. ⌜ WriteCall (called Difference (now (a .entry)) (now (b .entry)) (length (now (out .entry)))) r (now (out .entry)) (now (out .exit)) (now (size .entry)) (now (size .exit)) ⌝ }
 {
-    answer(bitmap_combine::difference(a, b, out), size)
+    c_bitmap::bitmap_difference(a, b, out, size)
 }
 
 // Writes the positions that are in exactly one of the two bitmaps.
@@ -66,5 +51,5 @@ pub extern "C" fn bv_bitmap_symmetric_difference(
 ) -> u32
     ensures { λ r. ⌜ WriteCall (called SymmetricDifference (now (a .entry)) (now (b .entry)) (length (now (out .entry)))) r (now (out .entry)) (now (out .exit)) (now (size .entry)) (now (size .exit)) ⌝ }
 {
-    answer(bitmap_combine::symmetric_difference(a, b, out), size)
+    c_bitmap::bitmap_symmetric_difference(a, b, out, size)
 }

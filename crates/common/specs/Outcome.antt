@@ -1,6 +1,7 @@
 -- Choices, and the outcome of a call: a refusal's number or what was found.
 use Prim.Native.Nat.{ℕ}
 use mathlib.Core.Bool.{Bool, true, false}
+use mathlib.Core.Path.{_≡_}
 
 -- the first where the test holds, else the second
 abbrev pub pick : {A : Type 0} → Bool → A → A → A
@@ -34,3 +35,22 @@ then (found a) f = f a
 unfoldable pub need : {A : Type 0} → Bool → ℕ → Outcome A → Outcome A
 need true n r = r
 need false n r = refused n
+
+-- what a call returns: the refusal's number, or 0
+abbrev pub status : {A : Type 0} → Outcome A → ℕ
+status (refused n) = n
+status (found a) = 0
+
+-- an output after the call: a refusal leaves what was there
+abbrev pub after : {A B : Type 0} → Outcome A → (A → B) → B → B
+after (refused n) f before = before
+after (found a) f before = f a
+
+-- a call of outcome o returns r and turns its output before into now, which holds f of what was found
+pub record Call {A B : Type 0} (o : Outcome A) (f : A → B) (r : ℕ) (before now : B) : Type 0 where
+  pub says : r ≡ status o
+  pub holds : now ≡ after o f before
+
+-- a call that asks for a number
+abbrev pub CountCall : Outcome ℕ → ℕ → ℕ → ℕ → Type 0
+CountCall o r was now = Call o (λ n. n) r was now

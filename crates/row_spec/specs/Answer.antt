@@ -8,6 +8,7 @@ use lib.Dec.{leb}
 use lib.IntN.{ℤ, pos}
 use lib.Ieee.{binary32, binary64, toBits}
 use Rattle.common.specs.Outcome.{one, Outcome, refused, found}
+pub use Rattle.common.specs.Outcome.{after}
 use Rattle.row_spec.specs.declared.Column.{Column}
 use Rattle.row_spec.specs.declared.ColumnType.{ColumnType}
 use Rattle.row_spec.specs.declared.ColumnType.the-variants as type
@@ -83,31 +84,24 @@ inside n (field.NanF64 m) = true
 inside n (field.Time z m) = true
 
 -- a type's id, its length or precision (0 where it has none), and its scale (0 where it has none)
+abbrev pub asType : ℕ → ℕ → ℕ → TypeShown
+asType i n k = record { id = i; size = n; scale = k }
+
 unfoldable pub typeShown : ColumnType → TypeShown
-typeShown type.Boolean = record { id = 0; size = 0; scale = 0 }
-typeShown type.TinyInt = record { id = 1; size = 0; scale = 0 }
-typeShown type.SmallInt = record { id = 2; size = 0; scale = 0 }
-typeShown type.Int = record { id = 3; size = 0; scale = 0 }
-typeShown type.BigInt = record { id = 4; size = 0; scale = 0 }
-typeShown type.Float = record { id = 5; size = 0; scale = 0 }
-typeShown type.Double = record { id = 6; size = 0; scale = 0 }
-typeShown type.Date = record { id = 7; size = 0; scale = 0 }
-typeShown (type.Char n) = record { id = 8; size = n; scale = 0 }
-typeShown (type.Varchar n) = record { id = 9; size = n; scale = 0 }
-typeShown type.String = record { id = 10; size = 0; scale = 0 }
-typeShown (type.Binary n) = record { id = 11; size = n; scale = 0 }
-typeShown (type.Varbinary n) = record { id = 12; size = n; scale = 0 }
-typeShown type.Bytes = record { id = 13; size = 0; scale = 0 }
-typeShown (type.Decimal p n) = record { id = 14; size = p; scale = n }
-typeShown (type.Time p) = record { id = 15; size = p; scale = 0 }
-typeShown (type.Timestamp p) = record { id = 16; size = p; scale = 0 }
-
--- the refusal's number, or 0
-abbrev pub refusal : {A : Type 0} → Outcome A → ℕ
-refusal (refused n) = n
-refusal (found a) = 0
-
--- an output after the call: a refusal leaves what was there
-abbrev pub after : {A B : Type 0} → Outcome A → (A → B) → B → B
-after (refused n) f before = before
-after (found a) f before = f a
+typeShown type.Boolean = asType 0 0 0
+typeShown type.TinyInt = asType 1 0 0
+typeShown type.SmallInt = asType 2 0 0
+typeShown type.Int = asType 3 0 0
+typeShown type.BigInt = asType 4 0 0
+typeShown type.Float = asType 5 0 0
+typeShown type.Double = asType 6 0 0
+typeShown type.Date = asType 7 0 0
+typeShown (type.Char n) = asType 8 n 0
+typeShown (type.Varchar n) = asType 9 n 0
+typeShown type.String = asType 10 0 0
+typeShown (type.Binary n) = asType 11 n 0
+typeShown (type.Varbinary n) = asType 12 n 0
+typeShown type.Bytes = asType 13 0 0
+typeShown (type.Decimal p n) = asType 14 p n
+typeShown (type.Time p) = asType 15 p 0
+typeShown (type.Timestamp p) = asType 16 p 0

@@ -1,3 +1,0 @@
-mod Pages
-mod Writes
-pub mod Bools

@@ -1,4 +1,0 @@
-pub mod Status
-pub mod BitmapRead
-pub mod BitmapWrite
-pub mod Outputs

@@ -1,0 +1,2 @@
+mod Bools
+mod Answers
