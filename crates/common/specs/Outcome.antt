@@ -1,6 +1,7 @@
 -- Choices, and the outcome of a call: a refusal's number or what was found.
 use Prim.Native.Nat.{ℕ}
 use mathlib.Core.Bool.{Bool, true, false}
+use mathlib.Core.Path.{_≡_}
 
 -- the first where the test holds, else the second
 abbrev pub pick : {A : Type 0} → Bool → A → A → A
@@ -34,3 +35,7 @@ then (found a) f = f a
 unfoldable pub need : {A : Type 0} → Bool → ℕ → Outcome A → Outcome A
 need true n r = r
 need false n r = refused n
+
+-- No refusal is 0: a call that returns the refusal's number, or 0, says by 0 that it did its work.
+abbrev pub Numbered : {A : Type 0} → Outcome A → Type 0
+Numbered o = o ≡ refused 0 → ⊥

@@ -6,3 +6,4 @@ pub mod TwosComplement
 pub mod Patterns
 pub mod Read
 pub mod Accepted
+pub mod Status

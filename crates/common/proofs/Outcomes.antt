@@ -1,0 +1,35 @@
+-- No refusal is 0: one law for each form that the definitions of outcomes are made of, and what 0 then says.
+-- Assumes nothing.
+use mathlib.Core.Path.{_≡_, refl, sym, _∙_}
+use mathlib.Core.Bool.{Bool, true, false}
+use Prim.Native.Nat.{ℕ, suc}
+use native.Mathlib.Omega.{arith}
+use Rattle.common.specs.Outcome.{pick, Outcome, refused, found, then, need, Numbered}
+
+pub found-numbered : {A : Type 0} (a : A) → Numbered (found a)
+found-numbered a e = let z : _≡_ {A = ℕ} 0 1 = cc in omega arith
+
+pub refused-numbered : {A : Type 0} (n : ℕ) → Numbered {A = A} (refused (suc n))
+refused-numbered n e = let z : suc n ≡ 0 = cc in omega arith
+
+pub need-numbered : {A : Type 0} (t : Bool) (n : ℕ) (o : Outcome A) → Numbered o → Numbered (need t (suc n) o)
+unfolding need
+need-numbered true n o h = h
+need-numbered false n o h = refused-numbered n
+
+pub pick-numbered : {A : Type 0} (t : Bool) (a b : Outcome A) → Numbered a → Numbered b → Numbered (pick t a b)
+pick-numbered true a b h g = h
+pick-numbered false a b h g = g
+
+pub then-numbered : {A B : Type 0} (o : Outcome A) (f : A → Outcome B) → Numbered o → ((a : A) → Numbered (f a)) → Numbered (then o f)
+then-numbered (refused n) f h g e = h (let z : n ≡ 0 = cc in rw z)
+then-numbered (found a) f h g e = g a e
+
+-- what was found, handed on
+pub told-numbered : {A B : Type 0} (o : Outcome A) (f : A → B) → Numbered o → Numbered (then o (λ a. found (f a)))
+told-numbered o f h = then-numbered o (λ a. found (f a)) h (λ a. found-numbered (f a))
+
+-- The number of an outcome, by any function that gives a refusal's number: where it is 0, something was found.
+pub zero-found : {A : Type 0} (status : Outcome A → ℕ) → ((n : ℕ) → status (refused n) ≡ n) → (o : Outcome A) → Numbered o → status o ≡ 0 → (a : A) × (o ≡ found a)
+zero-found status number (refused n) h e = absurd (h (let z : n ≡ 0 = sym (number n) ∙ e in rw z))
+zero-found status number (found a) h e = (a, refl)
