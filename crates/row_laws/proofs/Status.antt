@@ -73,4 +73,5 @@ row-count-numbered d s = then-numbered _ _ (schema-numbered d) (λ cols. told-nu
 pub block-field-numbered : (d s : List ℕ) (r c : ℕ) → Numbered (blockField d s r c)
 unfolding blockField asked
 block-field-numbered d s r c =
-    then-numbered _ _ (schema-numbered d) (λ cols. then-numbered _ _ (block-numbered cols s) (λ rs. need-numbered _ _ _ (found-numbered _)))
+    then-numbered _ _ (schema-numbered d)
+        (λ cols. then-numbered _ _ (block-numbered cols s) (λ rs. need-numbered _ _ _ (found-numbered _)))
