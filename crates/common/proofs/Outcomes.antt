@@ -1,4 +1,4 @@
--- No refusal is 0: one law for each form that the definitions of outcomes are made of, and what 0 then says.
+-- Outcomes: what was found was found at each step; no refusal is 0, by one law for each form that the definitions are made of.
 -- Assumes nothing.
 use mathlib.Core.Path.{_≡_, refl, sym, _∙_}
 use mathlib.Core.Bool.{Bool, true, false}
@@ -6,6 +6,11 @@ use Prim.Native.Nat.{ℕ, suc}
 use native.Mathlib.Omega.{arith}
 use Rattle.common.specs.Outcome.{pick, Outcome, refused, found, then, need, Numbered}
 
+pub then-found : {A B : Type 0} (o : Outcome A) (f : A → Outcome B) (b : B) → then o f ≡ found b → (a : A) × ((o ≡ found a) × (f a ≡ found b))
+then-found (refused n) f b e = absurd (let z : _≡_ {A = ℕ} 0 1 = cc in omega arith)
+then-found (found a) f b e = (a, (refl, e))
+
+-- ---- no refusal is 0
 pub found-numbered : {A : Type 0} (a : A) → Numbered (found a)
 found-numbered a e = let z : _≡_ {A = ℕ} 0 1 = cc in omega arith
 

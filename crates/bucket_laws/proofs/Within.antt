@@ -20,7 +20,7 @@ use Rattle.row_spec.specs.declared.FieldAnswer.{FieldAnswer}
 use Rattle.row_spec.specs.declared.Value.{Value}
 use Rattle.row_spec.specs.declared.Value.the-variants.{Read, CutShort, Bad}
 use Rattle.row_laws.proofs.Read.{need-found}
-use Rattle.row_laws.proofs.Accepted.{value-inside}
+use Rattle.row_laws.proofs.Values.{value-inside}
 use Rattle.bucket_spec.specs.Piece.{values, hereOf, nth, entryOf, valueOf, live}
 use Rattle.bucket_spec.specs.Bucket.{Layout, Judged, answer, isNull, colOf, tagOf, mapped, bucket, bucketField}
 
