@@ -1,2 +1,5 @@
 pub mod Within
 pub mod Status
+pub mod Runs
+pub mod Live
+pub mod Laid

@@ -32,7 +32,7 @@ before : (a b : ℕ) → a < suc b → (a ≡ b → ⊥) → a < b
 before a b p q = omega arith
 
 -- what holds of each element of a list, and of one more at its end
-kept-each : {A : Type 0} (P : ℕ → A → Type 0) (d : A) (l : List A) (x : A) (i : ℕ) → length l ≡ i → ((m : ℕ) → m < i → P m (getD l m d)) → P i x
+pub kept-each : {A : Type 0} (P : ℕ → A → Type 0) (d : A) (l : List A) (x : A) (i : ℕ) → length l ≡ i → ((m : ℕ) → m < i → P m (getD l m d)) → P i x
     → (m : ℕ) → m < suc i → P m (getD (l ++ (x ∷ [])) m d)
 kept-each P d l x i len h g m less = rw (kept-next l x m d) (by-test (eqb (length l) m) refl)
   where
