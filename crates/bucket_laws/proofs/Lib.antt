@@ -3,3 +3,5 @@ pub mod Status
 pub mod Runs
 pub mod Live
 pub mod Laid
+pub mod Pieces
+pub mod Answered
