@@ -7,27 +7,29 @@ use mathlib.Core.Logic.{_⊎_, inl, inr, ⊎-elim}
 use mathlib.Core.List.{List}
 use Prim.Native.Nat.{ℕ, zero, suc, _+_, _*_, _<_}
 use native.Mathlib.Omega.{arith}
-use borrow.Author.Tests.{eqb-true, eqb-false, eq-eqb, ne-eqb, lt-ltb}
+use borrow.Author.Tests.{eqb-true, eqb-false, ne-eqb, lt-ltb, ltb-true}
 use lib.ListN.{length, getD}
 use lib.Dec.{ltb, eqb}
 use Rattle.common.specs.Outcome.{pick, both, either, Outcome, refused, found, then, need}
 use Rattle.common.specs.Bytes.{ceil8, lowBit, lowBits}
-use Rattle.common.proofs.Lists.{both-left}
+use Rattle.common.proofs.Lists.{both-left, both-right}
+use Rattle.common.proofs.Outcomes.{then-found}
 use Rattle.common.proofs.LowBits.{bits-small}
 use Rattle.row_spec.specs.Schema.{schema, blankColumn}
 use Rattle.row_spec.specs.Answer.{inside}
 use Rattle.row_spec.specs.declared.Column.{Column}
 use Rattle.row_spec.specs.declared.Field.{Field}
 use Rattle.row_spec.specs.declared.Field.the-variants.{Null}
-use Rattle.row_laws.proofs.Values.{value-some}
+use Rattle.row_laws.proofs.Read.{need-found}
+use Rattle.row_laws.proofs.Values.{value-inside, value-some}
 use Rattle.bucket_spec.specs.Piece.{indexWidth, live, valueOf}
 use Rattle.bucket_spec.specs.Bucket.{Layout, Judged, colOf, tagOf, mapped, pieceOf, tagAllowed, isNull, answer, bucket, bucketField}
-use Rattle.bucket_laws.specs.Shown.{Among, Entry, columnAt, tagAt, hasNulls, constAt, tableAt, nullsAt, cellsAt, NullAt, liveBefore, Shows, Answered}
+use Rattle.bucket_laws.specs.Shown.{Among, columnAt, tagAt, hasNulls, constAt, tableAt, nullsAt, cellsAt, NullAt, liveBefore}
+use Rattle.bucket_laws.specs.Shown.{PlainAt, ConstAt, DictAt, Shows, Answered, Stored}
 use Rattle.bucket_laws.proofs.Runs.{run-value, run-nth}
 use Rattle.bucket_laws.proofs.Live.{live-less}
-use Rattle.bucket_laws.proofs.Laid.{Pieces, bucket-pieces}
+use Rattle.bucket_laws.proofs.Laid.{same, Pieces, bucket-pieces}
 use Rattle.bucket_laws.proofs.Pieces.{Table, const-read, table-read, nulls-read, plain-read, dict-read, value-const, value-plain, value-dict}
-use Rattle.bucket_laws.proofs.Within.{field-within}
 
 -- ---- tests on numbers
 -- a set null bit counts where there is a bitmap
@@ -62,16 +64,34 @@ one-of-three (suc (suc (suc t))) h g = absurd (g (omega arith))
 -- ---- one row and one column of an accepted bucket
 module _ (d : List ℕ) (cols : List Column) (n : ℕ) (s : List ℕ) (b : Judged) (r i : ℕ)
     (read : schema d ≡ found cols) (accepted : bucket cols n s ≡ found b) (row : r < n) (column : i < length cols) where
-  abbrev has : ℕ
-  has = b .tags + ceil8 (2 * length cols)
+  abbrev col : Column
+  col = columnAt cols n s b i
+
+  abbrev tag : ℕ
+  tag = tagAt cols n s b i
 
   abbrev map : Bool
-  map = mapped cols n s (b .tags) has i
+  map = mapped cols n s (b .tags) (b .tags + ceil8 (2 * length cols)) i
+
+  abbrev const : ℕ
+  const = constAt cols n s b i
+
+  abbrev table : ℕ
+  table = tableAt cols n s b i
+
+  abbrev nulls : ℕ
+  nulls = nullsAt cols n s b i
+
+  abbrev cells : ℕ
+  cells = cellsAt cols n s b i
 
   abbrev isNullHere : Bool
-  isNullHere = isNull cols n s (b .tags) has (b .layout) r i
+  isNullHere = isNull cols n s (b .tags) (b .tags + ceil8 (2 * length cols)) (b .layout) r i
 
-  pieces : Pieces cols n s (b .tags) has (b .layout) i
+  abbrev Value : Field → Type 0
+  Value f = valueOf s (col .ty) tag map r const table nulls cells ≡ found f
+
+  pieces : Pieces cols n s (b .tags) (b .tags + ceil8 (2 * length cols)) (b .layout) i
   pieces = bucket-pieces cols n s b accepted i column .1
 
   has-map : map ≡ true → hasNulls cols n s b i ≡ 1
@@ -79,65 +99,61 @@ module _ (d : List ℕ) (cols : List Column) (n : ℕ) (s : List ℕ) (b : Judge
   has-map e = eqb-true (hasNulls cols n s b i) 1 (both-left (eqb (hasNulls cols n s b i) 1) _ e)
 
   -- what the question comes to
-  asked : bucketField d n s r i ≡ pick isNullHere (found Null)
-      (valueOf s (columnAt cols n s b i .ty) (tagAt cols n s b i) map r (constAt cols n s b i) (tableAt cols n s b i) (nullsAt cols n s b i) (cellsAt cols n s b i))
+  asked : bucketField d n s r i ≡ pick isNullHere (found Null) (valueOf s (col .ty) tag map r const table nulls cells)
   unfolding bucketField answer need colOf tagOf
   asked = rw (read, accepted, lt-ltb r n row, lt-ltb i (length cols) column)
 
   -- ---- a null row
   module _ (e : isNullHere ≡ true) where
-    why : (tagAt cols n s b i ≡ 3) ⊎ ((map ≡ true) × (lowBit s (nullsAt cols n s b i) r ≡ 1))
+    why : (tag ≡ 3) ⊎ ((map ≡ true) × (lowBit s nulls r ≡ 1))
     unfolding isNull tagOf
-    why = null-cases (tagAt cols n s b i) map (lowBit s (nullsAt cols n s b i) r) e
+    why = null-cases tag map (lowBit s nulls r) e
 
-    nullable : columnAt cols n s b i .nullable ≡ true
+    nullable : col .nullable ≡ true
     unfolding tagAllowed pieceOf colOf tagOf
     nullable =
-        ⊎-elim (λ w. tag-allowed (columnAt cols n s b i .nullable) n (tagAt cols n s b i) (bucket-pieces cols n s b accepted i column .0) (omega arith) w)
-        (λ w. nulls-read s (columnAt cols n s b i) (tagAt cols n s b i) map n _ _ (nullsAt cols n s b i) _ (pieces .nulls .1) (w .0) r row (w .1)) why
+        let allowed = bucket-pieces cols n s b accepted i column .0 in
+        ⊎-elim (λ w. tag-allowed (col .nullable) n tag allowed (omega arith) w)
+        (λ w. nulls-read s col tag map n _ _ nulls _ (pieces .nulls .1) (w .0) r row (w .1)) why
 
     is-null : NullAt cols n s b i r
     is-null = ⊎-elim (λ w. inl w) (λ w. inr (has-map (w .0), w .1)) why
 
     answered-null : Answered d cols n s b r i
     unfolding inside
-    answered-null = record {
-      field = Null;
-      given = asked ∙ rw e;
-      shows = record {
-        null = λ w. refl;
-        only = λ q. is-null;
-        allowed = λ q. nullable;
-        tag = bits-small s (b .tags) (2 * i) 2;
-        plain = λ w. absurd (w is-null);
-        const = λ w. absurd (w is-null);
-        dict = λ w. absurd (w is-null);
-        within = refl;
-      };
-    }
+    answered-null =
+        record {
+          field = Null;
+          given = asked ∙ rw e;
+          shows = record {
+            null = λ w. refl;
+            only = λ q. is-null;
+            allowed = λ q. nullable;
+            tag = bits-small s (b .tags) (2 * i) 2;
+            plain = λ w. absurd (w is-null);
+            const = λ w. absurd (w is-null);
+            dict = λ w. absurd (w is-null);
+            within = refl;
+          };
+        }
 
   -- ---- a row that is not null
   module _ (e : isNullHere ≡ false) where
     not-null : NullAt cols n s b i r → ⊥
     unfolding isNull tagOf mapped
-    not-null w = null-never (tagAt cols n s b i) (hasNulls cols n s b i) (lowBit s (nullsAt cols n s b i) r) e w
+    not-null w = null-never tag (hasNulls cols n s b i) (lowBit s nulls r) e w
 
     less : liveBefore cols n s b i r < liveBefore cols n s b i n
-    less = live-less s (nullsAt cols n s b i) map r n row (λ m q. not-null (inr (has-map m, q)))
+    less = live-less s nulls map r n row (λ m q. not-null (inr (has-map m, q)))
 
-    -- the value that was read, and the facts of its tag
-    answer-with : (f : Field) (at m j : ℕ) → Among s (columnAt cols n s b i .ty) at m j f
-        → valueOf s (columnAt cols n s b i .ty) (tagAt cols n s b i) map r (constAt cols n s b i) (tableAt cols n s b i) (nullsAt cols n s b i) (cellsAt cols n s b i) ≡ found f
-        → (tagAt cols n s b i ≡ 0 → Among s (columnAt cols n s b i .ty) (cellsAt cols n s b i) (liveBefore cols n s b i n) (liveBefore cols n s b i r) f)
-        → (tagAt cols n s b i ≡ 1 → Among s (columnAt cols n s b i .ty) (constAt cols n s b i) 1 0 f)
-        → (tagAt cols n s b i ≡ 2 → Entry s (columnAt cols n s b i .ty) (tableAt cols n s b i) (cellsAt cols n s b i) (liveBefore cols n s b i n) (liveBefore cols n s b i r) f)
-        → Answered d cols n s b r i
+    -- the value that was read, and what its tag says of it
+    answer-with : (f : Field) (at m j : ℕ) → Among s (col .ty) at m j f → Value f → (tag ≡ 0 → PlainAt cols n s b i r f)
+        → (tag ≡ 1 → ConstAt cols n s b i f) → (tag ≡ 2 → DictAt cols n s b i r f) → Answered d cols n s b r i
     answer-with f at m j a v p c x =
-        let some : f ≡ Null → ⊥ = value-some s f (a .next) true (a .place) (columnAt cols n s b i .ty) (a .reads) in
-        let given : bucketField d n s r i ≡ found f = asked ∙ rw e v in
+        let some : f ≡ Null → ⊥ = value-some s f (a .next) true (a .place) (col .ty) (a .reads) in
         record {
           field = f;
-          given = given;
+          given = asked ∙ rw e v;
           shows = record {
             null = λ w. absurd (not-null w);
             only = λ q. absurd (some q);
@@ -146,44 +162,76 @@ module _ (d : List ℕ) (cols : List Column) (n : ℕ) (s : List ℕ) (b : Judge
             plain = λ w. p;
             const = λ w. c;
             dict = λ w. x;
-            within = field-within s f d n r i given;
+            within = value-inside s f (a .next) true (a .place) (col .ty) (a .reads);
           };
         }
 
-    answered-plain : tagAt cols n s b i ≡ 0 → Answered d cols n s b r i
+    answered-plain : tag ≡ 0 → Answered d cols n s b r i
     unfolding pieceOf colOf tagOf
     answered-plain q =
-        let all = plain-read s (columnAt cols n s b i) (tagAt cols n s b i) map n (tableAt cols n s b i) (nullsAt cols n s b i) (cellsAt cols n s b i) _ (pieces .cells .1) q in
-        let x = run-value s (columnAt cols n s b i .ty) (liveBefore cols n s b i n) (liveBefore cols n s b i r) (cellsAt cols n s b i) _ less all in
-        let v = value-plain s (columnAt cols n s b i .ty) (tagAt cols n s b i) map r (constAt cols n s b i) (tableAt cols n s b i) (nullsAt cols n s b i) (cellsAt cols n s b i) (x .0) q (run-nth s _ _ _ _ (x .0) (x .1)) in
+        let all = plain-read s col tag map n table nulls cells _ (pieces .cells .1) q in
+        let x = run-value s (col .ty) (liveBefore cols n s b i n) (liveBefore cols n s b i r) cells _ less all in
+        let v = value-plain s (col .ty) tag map r const table nulls cells (x .0) q (run-nth s _ _ _ _ (x .0) (x .1)) in
         answer-with (x .0) _ _ _ (x .1) v (λ p. x .1) (λ p. absurd (omega arith)) (λ p. absurd (omega arith))
 
-    answered-const : tagAt cols n s b i ≡ 1 → Answered d cols n s b r i
+    answered-const : tag ≡ 1 → Answered d cols n s b r i
     unfolding pieceOf colOf tagOf
     answered-const q =
-        let all = const-read s (columnAt cols n s b i) (tagAt cols n s b i) map n _ _ (constAt cols n s b i) _ (pieces .const .1) q in
-        let x = run-value s (columnAt cols n s b i .ty) 1 0 (constAt cols n s b i) _ (omega arith) all in
-        let v = value-const s (columnAt cols n s b i .ty) (tagAt cols n s b i) map r (constAt cols n s b i) (tableAt cols n s b i) (nullsAt cols n s b i) (cellsAt cols n s b i) (x .0) q (run-nth s _ _ _ _ (x .0) (x .1)) in
+        let all = const-read s col tag map n _ _ const _ (pieces .const .1) q in
+        let x = run-value s (col .ty) 1 0 const _ (omega arith) all in
+        let v = value-const s (col .ty) tag map r const table nulls cells (x .0) q (run-nth s _ _ _ _ (x .0) (x .1)) in
         answer-with (x .0) _ _ _ (x .1) v (λ p. absurd (omega arith)) (λ p. x .1) (λ p. absurd (omega arith))
 
-    answered-dict : tagAt cols n s b i ≡ 2 → Answered d cols n s b r i
+    answered-dict : tag ≡ 2 → Answered d cols n s b r i
     unfolding pieceOf colOf tagOf
     answered-dict q =
-        let t = table-read s (columnAt cols n s b i) (tagAt cols n s b i) map n _ _ (tableAt cols n s b i) _ (pieces .table .1) q in
-        let k = dict-read s (columnAt cols n s b i) (tagAt cols n s b i) map n (tableAt cols n s b i) (nullsAt cols n s b i) (cellsAt cols n s b i) _ t (pieces .cells .1) q in
-        let x = run-value s (columnAt cols n s b i .ty) (t .entries) _ (t .first) (t .end) (k .below (liveBefore cols n s b i r) less) (t .all) in
-        let v = value-dict s (columnAt cols n s b i .ty) (tagAt cols n s b i) map r (constAt cols n s b i) (tableAt cols n s b i) (nullsAt cols n s b i) (cellsAt cols n s b i) (x .0) q (t .entries) (t .first) (t .count) (run-nth s _ _ _ _ (x .0) (x .1)) in
-        answer-with (x .0) _ _ _ (x .1) v (λ p. absurd (omega arith)) (λ p. absurd (omega arith))
-        (λ p. record { entries = t .entries; first = t .first; count = t .count; least = t .least; most = t .most; below = less; room = k .room; entry = x .1 })
+        let t = table-read s col tag map n _ _ table _ (pieces .table .1) q in
+        let k = dict-read s col tag map n table nulls cells _ t (pieces .cells .1) q in
+        let below = k .below (liveBefore cols n s b i r) less in
+        let x = run-value s (col .ty) (t .entries) _ (t .first) (t .end) below (t .all) in
+        let nth = run-nth s _ _ _ _ (x .0) (x .1) in
+        let v = value-dict s (col .ty) tag map r const table nulls cells (x .0) q (t .entries) (t .first) (t .count) nth in
+        answer-with (x .0) _ _ _ (x .1) v (λ p. absurd (omega arith)) (λ p. absurd (omega arith)) (λ p.
+        record {
+          entries = t .entries;
+          first = t .first;
+          count = t .count;
+          least = t .least;
+          most = t .most;
+          below = less;
+          room = k .room;
+          entry = x .1;
+        })
 
     answered-some : Answered d cols n s b r i
     answered-some =
         let few = bits-small s (b .tags) (2 * i) 2 in
-        ⊎-elim answered-plain (λ w. ⊎-elim answered-const answered-dict w) (one-of-three (tagAt cols n s b i) few (λ q. not-null (inl q)))
+        ⊎-elim answered-plain (λ w. ⊎-elim answered-const answered-dict w) (one-of-three tag few (λ q. not-null (inl q)))
 
+  -- The question for a row and a column that an accepted bucket has is answered, with the stored field.
   pub answered : Answered d cols n s b r i
   answered = by-null isNullHere refl
     where
       by-null : (t : Bool) → isNullHere ≡ t → Answered d cols n s b r i
       by-null true e = answered-null e
       by-null false e = answered-some e
+
+-- Every answer is the stored field of a row and a column that an accepted bucket has.
+pub stored : (d : List ℕ) (n : ℕ) (s : List ℕ) (r i : ℕ) (f : Field) → bucketField d n s r i ≡ found f → Stored d n s r i f
+unfolding bucketField answer
+stored d n s r i f e =
+    let c = then-found (schema d) _ f e in
+    let b = then-found (bucket (c .0) n s) _ f (c .1 .1) in
+    let h = need-found (both (ltb r n) (ltb i (length (c .0)))) 25 _ f (b .1 .1) .0 in
+    let row = ltb-true r n (both-left (ltb r n) (ltb i (length (c .0))) h) in
+    let column = ltb-true i (length (c .0)) (both-right (ltb r n) (ltb i (length (c .0))) h) in
+    let a = answered d (c .0) n s (b .0) r i (c .1 .0) (b .1 .0) row column in
+    record {
+      cols = c .0;
+      read = c .1 .0;
+      judged = b .0;
+      accepted = b .1 .0;
+      row = row;
+      column = column;
+      shows = rw (same (sym (a .given) ∙ e)) at (a .shows);
+    }

@@ -18,7 +18,7 @@ use Rattle.row_laws.proofs.Read.{need-found}
 use Rattle.row_laws.proofs.Starts.{kept-each}
 use Rattle.bucket_spec.specs.Bucket.{Part, along, Layout, pieceOf, parts, tagAllowed, body, tagsAt, Judged, bucket}
 
-same : {A : Type 0} {a b : A} → found a ≡ found b → a ≡ b
+pub same : {A : Type 0} {a b : A} → found a ≡ found b → a ≡ b
 same e = cc
 
 -- ---- one part

@@ -8,7 +8,7 @@ use lib.ListN.{length, getD}
 use Rattle.common.specs.Outcome.{Outcome, found}
 use Rattle.common.specs.Bytes.{ceil8, lowBit, lowBits}
 use Rattle.row_spec.specs.Varint.{varintAt}
-use Rattle.row_spec.specs.Schema.{blankColumn}
+use Rattle.row_spec.specs.Schema.{schema, blankColumn}
 use Rattle.row_spec.specs.Value.{valueAt}
 use Rattle.row_spec.specs.Answer.{inside}
 use Rattle.row_spec.specs.declared.Varint.the-variants.{Number}
@@ -18,7 +18,7 @@ use Rattle.row_spec.specs.declared.Field.{Field}
 use Rattle.row_spec.specs.declared.Field.the-variants.{Null}
 use Rattle.row_spec.specs.declared.Value.the-variants.{Read}
 use Rattle.bucket_spec.specs.Piece.{values, indexWidth, live}
-use Rattle.bucket_spec.specs.Bucket.{Layout, Judged, mapped, bucketField}
+use Rattle.bucket_spec.specs.Bucket.{Layout, Judged, mapped, bucket, bucketField}
 
 -- Of m values of a type from at on, f is value j: it is read where the j before it end.
 pub record Among (s : List ℕ) (t : ColumnType) (at m j : ℕ) (f : Field) : Type 0 where
@@ -74,19 +74,27 @@ module _ (cols : List Column) (n : ℕ) (s : List ℕ) (b : Judged) (i : ℕ) wh
   abbrev pub liveBefore : ℕ → ℕ
   liveBefore r = live s (mapped cols n s (b .tags) (b .tags + ceil8 (2 * length cols)) i) nullsAt r
 
--- What the field f of row r and column i is. Null exactly if the column is ALL_NULL or its bitmap's bit is set, in no NOT NULL column;
--- otherwise "PLAIN has the non-null values; DICT .. has one index for each": the value, or the entry of the index, whose number is
--- how many rows before r are not null; or the one CONST value. Its place, if it is one, lies within the bucket.
+  -- the value of row r, not null, by the column's tag
+  abbrev pub PlainAt : ℕ → Field → Type 0
+  PlainAt r f = Among s (columnAt .ty) cellsAt (liveBefore n) (liveBefore r) f
+
+  abbrev pub ConstAt : Field → Type 0
+  ConstAt f = Among s (columnAt .ty) constAt 1 0 f
+
+  abbrev pub DictAt : ℕ → Field → Type 0
+  DictAt r f = Entry s (columnAt .ty) tableAt cellsAt (liveBefore n) (liveBefore r) f
+
+-- What the field f of row r and column i is. Null exactly if the column is ALL_NULL or its bitmap's bit is set, and then the column
+-- may be null. Otherwise "PLAIN has the non-null values; DICT .. has one index for each": the value, or the entry of the index,
+-- whose number is how many rows before r are not null; or the one CONST value. Its place, if it is one, lies within the bucket.
 pub record Shows (cols : List Column) (n : ℕ) (s : List ℕ) (b : Judged) (r i : ℕ) (f : Field) : Type 0 where
   pub null : NullAt cols n s b i r → f ≡ Null
   pub only : f ≡ Null → NullAt cols n s b i r
   pub allowed : f ≡ Null → columnAt cols n s b i .nullable ≡ true
   pub tag : tagAt cols n s b i < 4
-  pub plain : (NullAt cols n s b i r → ⊥) → tagAt cols n s b i ≡ 0
-      → Among s (columnAt cols n s b i .ty) (cellsAt cols n s b i) (liveBefore cols n s b i n) (liveBefore cols n s b i r) f
-  pub const : (NullAt cols n s b i r → ⊥) → tagAt cols n s b i ≡ 1 → Among s (columnAt cols n s b i .ty) (constAt cols n s b i) 1 0 f
-  pub dict : (NullAt cols n s b i r → ⊥) → tagAt cols n s b i ≡ 2
-      → Entry s (columnAt cols n s b i .ty) (tableAt cols n s b i) (cellsAt cols n s b i) (liveBefore cols n s b i n) (liveBefore cols n s b i r) f
+  pub plain : (NullAt cols n s b i r → ⊥) → tagAt cols n s b i ≡ 0 → PlainAt cols n s b i r f
+  pub const : (NullAt cols n s b i r → ⊥) → tagAt cols n s b i ≡ 1 → ConstAt cols n s b i f
+  pub dict : (NullAt cols n s b i r → ⊥) → tagAt cols n s b i ≡ 2 → DictAt cols n s b i r f
   pub within : inside (length s) f ≡ true
 
 -- the answer to a question for row r and column i
@@ -94,3 +102,13 @@ pub record Answered (d : List ℕ) (cols : List Column) (n : ℕ) (s : List ℕ)
   pub field : Field
   pub given : bucketField d n s r i ≡ found field
   pub shows : Shows cols n s b r i field
+
+-- a question that was answered with f: schema and bucket are accepted, row and column exist, and f is the stored field
+pub record Stored (d : List ℕ) (n : ℕ) (s : List ℕ) (r i : ℕ) (f : Field) : Type 0 where
+  pub cols : List Column
+  pub read : schema d ≡ found cols
+  pub judged : Judged
+  pub accepted : bucket cols n s ≡ found judged
+  pub row : r < n
+  pub column : i < length cols
+  pub shows : Shows cols n s judged r i f
