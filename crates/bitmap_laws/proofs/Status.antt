@@ -17,7 +17,8 @@ use Rattle.bitmap_spec.specs.declared.Operation.{Operation}
 chunk-with-numbered : (s : List ℕ) (n : ℕ) (h : ChunkHead) → Numbered (chunkWith s n h)
 unfolding chunkWith
 chunk-with-numbered s n h =
-    need-numbered _ _ _ (need-numbered _ _ _ (need-numbered _ _ _ (need-numbered _ _ _ (need-numbered _ _ _ (found-numbered _)))))
+    need-numbered _ _ _ (need-numbered _ _ _ (need-numbered _ _ _
+    (need-numbered _ _ _ (need-numbered _ _ _ (found-numbered _)))))
 
 chunk-numbered : (s : List ℕ) (at n : ℕ) → Numbered (chunk s at n)
 unfolding chunk
@@ -31,7 +32,8 @@ last-chunk-numbered s at acc (suc r) = told-numbered _ _ (chunk-numbered s at (s
 chunks-numbered : (s : List ℕ) (at : ℕ) (acc : List ℕ) (k r : ℕ) → Numbered (chunks s at acc k r)
 unfolding chunks
 chunks-numbered s at acc zero r = last-chunk-numbered s at acc r
-chunks-numbered s at acc (suc k) r = then-numbered _ _ (chunk-numbered s at 256) (λ c. chunks-numbered s (c .next) (acc ++ c .descs) k r)
+chunks-numbered s at acc (suc k) r =
+    then-numbered _ _ (chunk-numbered s at 256) (λ c. chunks-numbered s (c .next) (acc ++ c .descs) k r)
 
 body-numbered : (s : List ℕ) (c : Chunk) → Numbered (judgeBody s c)
 unfolding judgeBody
@@ -72,4 +74,5 @@ write-numbered l room = need-numbered _ _ _ (placed-numbered (form l) room)
 pub called-numbered : (o : Operation) (a b : List ℕ) (room : ℕ) → Numbered (called o a b room)
 unfolding called
 called-numbered o a b room =
-    then-numbered _ _ (judge-numbered a) (λ x. then-numbered _ _ (judge-numbered b) (λ y. placed-numbered (form (combine o x y)) room))
+    then-numbered _ _ (judge-numbered a) (λ x.
+    then-numbered _ _ (judge-numbered b) (λ y. placed-numbered (form (combine o x y)) room))

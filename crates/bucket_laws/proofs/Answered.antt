@@ -1,5 +1,6 @@
--- An accepted bucket's question for a row and a column that it has is answered, and the answer is the stored value: each piece of the
--- column was read where it starts, and the row's number among those that are not null is below how many values or indexes there are.
+-- A question for a row and a column that an accepted bucket has is answered, and the answer is the stored value: each
+-- piece of the column was read where it starts, and the row's number among those that are not null is below how many
+-- values or indexes there are.
 -- Assumes nothing.
 use mathlib.Core.Path.{_≡_, refl, sym, ap, _∙_}
 use mathlib.Core.Bool.{Bool, true, false, not}
@@ -13,7 +14,7 @@ use lib.Dec.{ltb, eqb}
 use Rattle.common.specs.Outcome.{pick, both, either, Outcome, refused, found, then, need}
 use Rattle.common.specs.Bytes.{ceil8, lowBit, lowBits}
 use Rattle.common.proofs.Lists.{both-left, both-right}
-use Rattle.common.proofs.Outcomes.{then-found}
+use Rattle.common.proofs.Outcomes.{same-found, then-found}
 use Rattle.common.proofs.LowBits.{bits-small}
 use Rattle.row_spec.specs.Schema.{schema, blankColumn}
 use Rattle.row_spec.specs.Answer.{inside}
@@ -23,17 +24,21 @@ use Rattle.row_spec.specs.declared.Field.the-variants.{Null}
 use Rattle.row_laws.proofs.Read.{need-found}
 use Rattle.row_laws.proofs.Values.{value-inside, value-some}
 use Rattle.bucket_spec.specs.Piece.{indexWidth, live, valueOf}
-use Rattle.bucket_spec.specs.Bucket.{Layout, Judged, colOf, tagOf, mapped, pieceOf, tagAllowed, isNull, answer, bucket, bucketField}
-use Rattle.bucket_laws.specs.Shown.{Among, columnAt, tagAt, hasNulls, constAt, tableAt, nullsAt, cellsAt, NullAt, liveBefore}
-use Rattle.bucket_laws.specs.Shown.{PlainAt, ConstAt, DictAt, Shows, Answered, Stored}
+use Rattle.bucket_spec.specs.Bucket.{Layout, Judged, colOf, tagOf, mapped, pieceOf, tagAllowed, isNull, answer, bucket}
+use Rattle.bucket_spec.specs.Bucket.{bucketField}
+use Rattle.bucket_laws.specs.Shown.{Among, columnAt, tagAt, hasNulls, constAt, tableAt, nullsAt, cellsAt, NullAt}
+use Rattle.bucket_laws.specs.Shown.{liveBefore}
+use Rattle.bucket_laws.specs.Shown.{PlainAt, ConstAt, DictAt, Counts, Shows, Answered, Stored}
 use Rattle.bucket_laws.proofs.Runs.{run-value, run-nth}
-use Rattle.bucket_laws.proofs.Live.{live-less}
-use Rattle.bucket_laws.proofs.Laid.{same, Pieces, bucket-pieces}
-use Rattle.bucket_laws.proofs.Pieces.{Table, const-read, table-read, nulls-read, plain-read, dict-read, value-const, value-plain, value-dict}
+use Rattle.bucket_laws.proofs.Live.{live-none, live-next, live-same, live-less}
+use Rattle.bucket_laws.proofs.Laid.{Pieces, bucket-pieces}
+use Rattle.bucket_laws.proofs.Pieces.{Table, const-read, table-read, nulls-read, plain-read, dict-read}
+use Rattle.bucket_laws.proofs.Pieces.{value-const, value-plain, value-dict}
 
 -- ---- tests on numbers
 -- a set null bit counts where there is a bitmap
-null-cases : (tag : ℕ) (m : Bool) (bit : ℕ) → either (eqb tag 3) (both m (eqb bit 1)) ≡ true → (tag ≡ 3) ⊎ ((m ≡ true) × (bit ≡ 1))
+null-cases : (tag : ℕ) (m : Bool) (bit : ℕ) → either (eqb tag 3) (both m (eqb bit 1)) ≡ true
+    → (tag ≡ 3) ⊎ ((m ≡ true) × (bit ≡ 1))
 null-cases tag m bit e = by-tag (eqb tag 3) refl e
   where
     by-map : (t : Bool) → both t (eqb bit 1) ≡ true → (t ≡ true) × (bit ≡ 1)
@@ -44,22 +49,51 @@ null-cases tag m bit e = by-tag (eqb tag 3) refl e
     by-tag true h q = inl (eqb-true tag 3 h)
     by-tag false h q = inr (by-map m q)
 
-null-never : (tag has bit : ℕ) → either (eqb tag 3) (both (both (eqb has 1) (not (eqb tag 3))) (eqb bit 1)) ≡ false → (tag ≡ 3) ⊎ ((has ≡ 1) × (bit ≡ 1)) → ⊥
+null-never : (tag has bit : ℕ) → either (eqb tag 3) (both (both (eqb has 1) (not (eqb tag 3))) (eqb bit 1)) ≡ false
+    → (tag ≡ 3) ⊎ ((has ≡ 1) × (bit ≡ 1)) → ⊥
 null-never tag has bit e w = by-tag (eqb tag 3) refl e
   where
     by-tag : (t : Bool) → eqb tag 3 ≡ t → either t (both (both (eqb has 1) (not t)) (eqb bit 1)) ≡ false → ⊥
     by-tag true h q = let z : _≡_ {A = ℕ} 0 1 = cc in omega arith
-    by-tag false h q = ⊎-elim (λ v. eqb-false tag 3 h v) (λ v. let z : _≡_ {A = ℕ} 0 1 = cc (rw (v .0, v .1) at q) in omega arith) w
+    by-tag false h q =
+        ⊎-elim (λ v. eqb-false tag 3 h v) (λ v. let z : _≡_ {A = ℕ} 0 1 = cc (rw (v .0, v .1) at q) in omega arith) w
 
-tag-allowed : (nullable : Bool) (n tag : ℕ) → either nullable (either (eqb n 0) (not (eqb tag 3))) ≡ true → 0 < n → tag ≡ 3 → nullable ≡ true
+tag-allowed : (nullable : Bool) (n tag : ℕ) → either nullable (either (eqb n 0) (not (eqb tag 3))) ≡ true → 0 < n
+    → tag ≡ 3 → nullable ≡ true
 tag-allowed true n tag e h q = refl
-tag-allowed false n tag e h q = absurd (let z : _≡_ {A = ℕ} 0 1 = cc (rw (ne-eqb n 0 (λ p. omega arith), q) at e) in omega arith)
+tag-allowed false n tag e h q =
+    absurd (let z : _≡_ {A = ℕ} 0 1 = cc (rw (ne-eqb n 0 (λ p. omega arith), q) at e) in omega arith)
 
 one-of-three : (t : ℕ) → t < 4 → (t ≡ 3 → ⊥) → (t ≡ 0) ⊎ ((t ≡ 1) ⊎ (t ≡ 2))
 one-of-three zero h g = inl refl
 one-of-three (suc zero) h g = inr (inl refl)
 one-of-three (suc (suc zero)) h g = inr (inr refl)
 one-of-three (suc (suc (suc t))) h g = absurd (g (omega arith))
+
+-- ---- rows that are not null
+module _ (cols : List Column) (n : ℕ) (s : List ℕ) (b : Judged) (i : ℕ) where
+  abbrev mappedAt : Bool
+  mappedAt = mapped cols n s (b .tags) (b .tags + ceil8 (2 * length cols)) i
+
+  mapped-has : mappedAt ≡ true → hasNulls cols n s b i ≡ 1
+  unfolding mapped
+  mapped-has e = eqb-true (hasNulls cols n s b i) 1 (both-left (eqb (hasNulls cols n s b i) 1) _ e)
+
+  has-mapped : hasNulls cols n s b i ≡ 1 → (tagAt cols n s b i ≡ 3 → ⊥) → mappedAt ≡ true
+  unfolding mapped tagOf
+  has-mapped e h = rw (e, ne-eqb (tagAt cols n s b i) 3 h)
+
+  pub counts : Counts cols n s b i
+  counts =
+      record {
+        none = live-none s (nullsAt cols n s b i) mappedAt;
+        some = λ r h. live-next s (nullsAt cols n s b i) mappedAt r (λ m q. h (inr (mapped-has m, q)));
+        null = λ r h w. ⊎-elim (λ v. absurd (h v)) (λ v. by-map r (has-mapped (v .0) h) (v .1)) w;
+      }
+    where
+      by-map : (r : ℕ) → mappedAt ≡ true → lowBit s (nullsAt cols n s b i) r ≡ 1
+          → liveBefore cols n s b i (suc r) ≡ liveBefore cols n s b i r
+      by-map r m q = rw m (live-same s (nullsAt cols n s b i) r q)
 
 -- ---- one row and one column of an accepted bucket
 module _ (d : List ℕ) (cols : List Column) (n : ℕ) (s : List ℕ) (b : Judged) (r i : ℕ)
@@ -71,7 +105,7 @@ module _ (d : List ℕ) (cols : List Column) (n : ℕ) (s : List ℕ) (b : Judge
   tag = tagAt cols n s b i
 
   abbrev map : Bool
-  map = mapped cols n s (b .tags) (b .tags + ceil8 (2 * length cols)) i
+  map = mappedAt cols n s b i
 
   abbrev const : ℕ
   const = constAt cols n s b i
@@ -94,10 +128,6 @@ module _ (d : List ℕ) (cols : List Column) (n : ℕ) (s : List ℕ) (b : Judge
   pieces : Pieces cols n s (b .tags) (b .tags + ceil8 (2 * length cols)) (b .layout) i
   pieces = bucket-pieces cols n s b accepted i column .1
 
-  has-map : map ≡ true → hasNulls cols n s b i ≡ 1
-  unfolding mapped
-  has-map e = eqb-true (hasNulls cols n s b i) 1 (both-left (eqb (hasNulls cols n s b i) 1) _ e)
-
   -- what the question comes to
   asked : bucketField d n s r i ≡ pick isNullHere (found Null) (valueOf s (col .ty) tag map r const table nulls cells)
   unfolding bucketField answer need colOf tagOf
@@ -117,7 +147,7 @@ module _ (d : List ℕ) (cols : List Column) (n : ℕ) (s : List ℕ) (b : Judge
         (λ w. nulls-read s col tag map n _ _ nulls _ (pieces .nulls .1) (w .0) r row (w .1)) why
 
     is-null : NullAt cols n s b i r
-    is-null = ⊎-elim (λ w. inl w) (λ w. inr (has-map (w .0), w .1)) why
+    is-null = ⊎-elim (λ w. inl w) (λ w. inr (mapped-has cols n s b i (w .0), w .1)) why
 
     answered-null : Answered d cols n s b r i
     unfolding inside
@@ -144,7 +174,7 @@ module _ (d : List ℕ) (cols : List Column) (n : ℕ) (s : List ℕ) (b : Judge
     not-null w = null-never tag (hasNulls cols n s b i) (lowBit s nulls r) e w
 
     less : liveBefore cols n s b i r < liveBefore cols n s b i n
-    less = live-less s nulls map r n row (λ m q. not-null (inr (has-map m, q)))
+    less = live-less s nulls map r n row (λ m q. not-null (inr (mapped-has cols n s b i m, q)))
 
     -- the value that was read, and what its tag says of it
     answer-with : (f : Field) (at m j : ℕ) → Among s (col .ty) at m j f → Value f → (tag ≡ 0 → PlainAt cols n s b i r f)
@@ -190,7 +220,8 @@ module _ (d : List ℕ) (cols : List Column) (n : ℕ) (s : List ℕ) (b : Judge
         let below = k .below (liveBefore cols n s b i r) less in
         let x = run-value s (col .ty) (t .entries) _ (t .first) (t .end) below (t .all) in
         let nth = run-nth s _ _ _ _ (x .0) (x .1) in
-        let v = value-dict s (col .ty) tag map r const table nulls cells (x .0) q (t .entries) (t .first) (t .count) nth in
+        let v =
+        value-dict s (col .ty) tag map r const table nulls cells (x .0) q (t .entries) (t .first) (t .count) nth in
         answer-with (x .0) _ _ _ (x .1) v (λ p. absurd (omega arith)) (λ p. absurd (omega arith)) (λ p.
         record {
           entries = t .entries;
@@ -206,7 +237,8 @@ module _ (d : List ℕ) (cols : List Column) (n : ℕ) (s : List ℕ) (b : Judge
     answered-some : Answered d cols n s b r i
     answered-some =
         let few = bits-small s (b .tags) (2 * i) 2 in
-        ⊎-elim answered-plain (λ w. ⊎-elim answered-const answered-dict w) (one-of-three tag few (λ q. not-null (inl q)))
+        ⊎-elim answered-plain (λ w. ⊎-elim answered-const answered-dict w)
+        (one-of-three tag few (λ q. not-null (inl q)))
 
   -- The question for a row and a column that an accepted bucket has is answered, with the stored field.
   pub answered : Answered d cols n s b r i
@@ -217,7 +249,8 @@ module _ (d : List ℕ) (cols : List Column) (n : ℕ) (s : List ℕ) (b : Judge
       by-null false e = answered-some e
 
 -- Every answer is the stored field of a row and a column that an accepted bucket has.
-pub stored : (d : List ℕ) (n : ℕ) (s : List ℕ) (r i : ℕ) (f : Field) → bucketField d n s r i ≡ found f → Stored d n s r i f
+pub stored : (d : List ℕ) (n : ℕ) (s : List ℕ) (r i : ℕ) (f : Field) → bucketField d n s r i ≡ found f
+    → Stored d n s r i f
 unfolding bucketField answer
 stored d n s r i f e =
     let c = then-found (schema d) _ f e in
@@ -233,5 +266,5 @@ stored d n s r i f e =
       accepted = b .1 .0;
       row = row;
       column = column;
-      shows = rw (same (sym (a .given) ∙ e)) at (a .shows);
+      shows = rw (same-found (sym (a .given) ∙ e)) at (a .shows);
     }

@@ -16,8 +16,14 @@ module _ (s : List ℕ) (p : ℕ) where
   unfolding lowCount
   count-next k = refl
 
+  pub live-none : (mapped : Bool) → live s mapped p 0 ≡ 0
+  unfolding live
+  live-none true = omega arith
+  live-none false = refl
+
   -- a row that is not null is one more
-  live-next : (mapped : Bool) (k : ℕ) → (mapped ≡ true → lowBit s p k ≡ 1 → ⊥) → live s mapped p (suc k) ≡ suc (live s mapped p k)
+  pub live-next : (mapped : Bool) (k : ℕ) → (mapped ≡ true → lowBit s p k ≡ 1 → ⊥)
+      → live s mapped p (suc k) ≡ suc (live s mapped p k)
   unfolding live
   live-next true k h =
       let z : lowBit s p k ≡ 0 = zero-or-one (bit-small s p k) (h refl) in
@@ -27,6 +33,11 @@ module _ (s : List ℕ) (p : ℕ) where
       zero-or-one {b} l q = omega arith
   live-next false k h = refl
 
+  -- a null row is none
+  pub live-same : (k : ℕ) → lowBit s p k ≡ 1 → live s true p (suc k) ≡ live s true p k
+  unfolding live
+  live-same k h = omega (arith, count-next k, count-le s p k)
+
   live-step : (mapped : Bool) (k : ℕ) → live s mapped p k ≤ live s mapped p (suc k)
   unfolding live
   live-step true k = omega (arith, count-next k, bit-small s p k, count-le s p k)
@@ -34,10 +45,13 @@ module _ (s : List ℕ) (p : ℕ) where
 
   live-up : (mapped : Bool) (k d : ℕ) → live s mapped p k ≤ live s mapped p (k + d)
   live-up mapped k zero = let a : k + 0 ≡ k = omega arith in rw a (omega arith)
-  live-up mapped k (suc d) = let a : k + suc d ≡ suc (k + d) = omega arith in rw a (omega (arith, live-up mapped k d, live-step mapped (k + d)))
+  live-up mapped k (suc d) =
+      let a : k + suc d ≡ suc (k + d) = omega arith in
+      rw a (omega (arith, live-up mapped k d, live-step mapped (k + d)))
 
   -- so its number is below that of all
-  pub live-less : (mapped : Bool) (r n : ℕ) → r < n → (mapped ≡ true → lowBit s p r ≡ 1 → ⊥) → live s mapped p r < live s mapped p n
+  pub live-less : (mapped : Bool) (r n : ℕ) → r < n → (mapped ≡ true → lowBit s p r ≡ 1 → ⊥)
+      → live s mapped p r < live s mapped p n
   live-less mapped r n h g =
       let a : suc r + (n - suc r) ≡ n = omega arith in
       let b = rw a at (live-up mapped (suc r) (n - suc r)) in

@@ -19,7 +19,8 @@ use Rattle.row_spec.specs.declared.Column.{Column}
 use Rattle.row_spec.specs.declared.ColumnType.{ColumnType}
 use Rattle.row_spec.specs.declared.Field.{Field}
 use Rattle.row_laws.proofs.Read.{need-found}
-use Rattle.bucket_spec.specs.Piece.{values, nth, indexWidth, entriesOf, tableOf, constPiece, tablePiece, nullsPiece, live, indexes, dataPiece, piece, entryOf, valueOf}
+use Rattle.bucket_spec.specs.Piece.{values, nth, indexWidth, entriesOf, tableOf, constPiece, tablePiece, nullsPiece}
+use Rattle.bucket_spec.specs.Piece.{live, indexes, dataPiece, piece, entryOf, valueOf}
 use Rattle.bucket_laws.proofs.Live.{count-none}
 
 clash : {A : Type 0} → _≡_ {A = ℕ} 0 1 → A
@@ -44,7 +45,9 @@ table-is : (s : List ℕ) (t : ColumnType) (at next : ℕ) → tableOf s t (vari
 unfolding tableOf
 table-is s t at next h = by-count (varintAt s at) refl h
   where
-    by-count : (r : Varint) → varintAt s at ≡ r → onVarint r (refused 31) (refused 32) (λ e first. need (both (leb 2 e) (leb e 255)) 33 (values s t e first)) ≡ found next → Table s t at
+    by-count : (r : Varint) → varintAt s at ≡ r
+        → onVarint r (refused 31) (refused 32) (λ e first. need (both (leb 2 e) (leb e 255)) 33 (values s t e first))
+        ≡ found next → Table s t at
     by-count varint.CutShort p q = clash (cc)
     by-count varint.IllFormed p q = clash (cc)
     by-count (varint.Number e first) p q =
@@ -66,7 +69,7 @@ indexes-are s at m w e next h =
     let b = need-found (every (λ j. ltb (lowBits s at (j * w) w) e) (from 0 m)) 33 _ next (a .1) in
     record {
       room = leb-true (at + ceil8 (m * w)) (length s) (a .0);
-      below = λ j l. ltb-true (lowBits s at (j * w) w) e (let z : 0 + j ≡ j = omega arith in rw z at (every-each (λ j. ltb (lowBits s at (j * w) w) e) 0 m j (b .0) l));
+      below = λ j l. ltb-true _ e (every-each (λ j. ltb (lowBits s at (j * w) w) e) m j (b .0) l);
     }
 
 module _ (s : List ℕ) (c : Column) (tag : ℕ) (mapped : Bool) (n table nulls at next : ℕ) where
@@ -79,22 +82,29 @@ module _ (s : List ℕ) (c : Column) (tag : ℕ) (mapped : Bool) (n table nulls 
   table-read h q = table-is s (c .ty) at next (rw q at h)
 
   -- "35 (a null bit .. in a NOT NULL column)"
-  pub nulls-read : piece 2 s c tag mapped n table nulls at ≡ found next → mapped ≡ true → (k : ℕ) → k < n → lowBit s at k ≡ 1 → c .nullable ≡ true
+  pub nulls-read : piece 2 s c tag mapped n table nulls at ≡ found next → mapped ≡ true → (k : ℕ) → k < n
+      → lowBit s at k ≡ 1 → c .nullable ≡ true
   unfolding piece nullsPiece
-  nulls-read h q k l b = by-case (c .nullable) (need-found _ 35 _ next (need-found _ 34 _ next (need-found _ 31 _ next (rw q at h) .1) .1) .0)
+  nulls-read h q k l b =
+      let spare = need-found _ 31 _ next (rw q at h) .1 in
+      let none = need-found _ 34 _ next spare .1 in
+      by-case (c .nullable) (need-found _ 35 _ next none .0)
     where
       by-case : (t : Bool) → either t (eqb (lowCount s at n) 0) ≡ true → t ≡ true
       by-case true e = refl
       by-case false e = let z = count-none s at n k (eqb-true (lowCount s at n) 0 e) l in clash (cc)
 
-  pub plain-read : piece 3 s c tag mapped n table nulls at ≡ found next → tag ≡ 0 → values s (c .ty) (live s mapped nulls n) at ≡ found next
+  pub plain-read : piece 3 s c tag mapped n table nulls at ≡ found next → tag ≡ 0
+      → values s (c .ty) (live s mapped nulls n) at ≡ found next
   unfolding piece dataPiece
   plain-read h q = rw q at h
 
   pub dict-read : (x : Table s (c .ty) table) → piece 3 s c tag mapped n table nulls at ≡ found next → tag ≡ 2
       → Indexes s at (live s mapped nulls n) (indexWidth (x .entries)) (x .entries)
   unfolding piece dataPiece
-  dict-read x h q = indexes-are s at (live s mapped nulls n) (indexWidth (x .entries)) (x .entries) next (rw (x .count) at (rw q at h))
+  dict-read x h q =
+      let e = x .entries in
+      indexes-are s at (live s mapped nulls n) (indexWidth e) e next (rw (x .count) at (rw q at h))
 
 -- ---- the value of a row, by the column's tag
 module _ (s : List ℕ) (t : ColumnType) (tag : ℕ) (mapped : Bool) (r const table nulls cells : ℕ) (f : Field) where
@@ -102,11 +112,13 @@ module _ (s : List ℕ) (t : ColumnType) (tag : ℕ) (mapped : Bool) (r const ta
   unfolding valueOf
   value-const q h = rw q h
 
-  pub value-plain : tag ≡ 0 → nth s t cells (live s mapped nulls r) ≡ found f → valueOf s t tag mapped r const table nulls cells ≡ found f
+  pub value-plain : tag ≡ 0 → nth s t cells (live s mapped nulls r) ≡ found f
+      → valueOf s t tag mapped r const table nulls cells ≡ found f
   unfolding valueOf
   value-plain q h = rw q h
 
   pub value-dict : tag ≡ 2 → (e first : ℕ) → varintAt s table ≡ varint.Number e first
-      → nth s t first (lowBits s cells (live s mapped nulls r * indexWidth e) (indexWidth e)) ≡ found f → valueOf s t tag mapped r const table nulls cells ≡ found f
+      → nth s t first (lowBits s cells (live s mapped nulls r * indexWidth e) (indexWidth e)) ≡ found f
+      → valueOf s t tag mapped r const table nulls cells ≡ found f
   unfolding valueOf entryOf
   value-dict q e first c h = rw (q, c) h

@@ -20,17 +20,20 @@ clash z = absurd (let k : _≡_ {A = ℕ} 0 1 = z in omega arith)
 
 module _ (s : List ℕ) (t : ColumnType) where
   -- one value, then the rest
-  values-read : (m at end : ℕ) → values s t (suc m) at ≡ found end → (f : Field) × ((next : ℕ) × ((valueAt true s at t ≡ Read f next) × (values s t m next ≡ found end)))
+  values-read : (m at end : ℕ) → values s t (suc m) at ≡ found end
+      → (f : Field) × ((next : ℕ) × ((valueAt true s at t ≡ Read f next) × (values s t m next ≡ found end)))
   unfolding values
   values-read m at end e = by-value (valueAt true s at t) refl e
     where
-      by-value : (v : Value) → valueAt true s at t ≡ v → onValue v (refused 31) (refused 32) (λ f next. values s t m next) ≡ found end
+      by-value : (v : Value) → valueAt true s at t ≡ v
+          → onValue v (refused 31) (refused 32) (λ f next. values s t m next) ≡ found end
           → (f : Field) × ((next : ℕ) × ((valueAt true s at t ≡ Read f next) × (values s t m next ≡ found end)))
       by-value CutShort p q = clash (cc)
       by-value Bad p q = clash (cc)
       by-value (Read f next) p q = (f, (next, (p, q)))
 
-  values-one : (m at : ℕ) (f : Field) (next : ℕ) → valueAt true s at t ≡ Read f next → values s t (suc m) at ≡ values s t m next
+  values-one : (m at : ℕ) (f : Field) (next : ℕ) → valueAt true s at t ≡ Read f next
+      → values s t (suc m) at ≡ values s t m next
   unfolding values
   values-one m at f next p = rw p
 
@@ -52,8 +55,18 @@ module _ (s : List ℕ) (t : ColumnType) where
   -- the value that was read there
   pub run-value : (m j at end : ℕ) → j < m → values s t m at ≡ found end → (f : Field) × Among s t at m j f
   run-value m j at end h e =
-      let x = split m j at end h e in
-      (x .1 .1 .0, record { end = end; all = e; below = h; place = x .0; before = x .1 .0; next = x .1 .1 .1 .0; reads = x .1 .1 .1 .1 })
+      let x = split m j at end h e in (
+        x .1 .1 .0,
+        record {
+          end = end;
+          all = e;
+          below = h;
+          place = x .0;
+          before = x .1 .0;
+          next = x .1 .1 .1 .0;
+          reads = x .1 .1 .1 .1;
+        },
+      )
 
   -- and the question for it is answered so
   pub run-nth : (m j at : ℕ) (f : Field) → Among s t at m j f → nth s t at j ≡ found f

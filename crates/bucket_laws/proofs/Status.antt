@@ -7,7 +7,8 @@ use lib.ListN.{length, getD}
 use lib.Dec.{eqb}
 use Rattle.common.specs.Outcome.{Outcome, refused, found, then, need, Numbered}
 use Rattle.common.specs.Bytes.{ceil8}
-use Rattle.common.proofs.Outcomes.{found-numbered, refused-numbered, need-numbered, pick-numbered, then-numbered, told-numbered}
+use Rattle.common.proofs.Outcomes.{found-numbered, refused-numbered, need-numbered, pick-numbered, then-numbered}
+use Rattle.common.proofs.Outcomes.{told-numbered}
 use Rattle.row_spec.specs.Varint.{varintAt}
 use Rattle.row_spec.specs.Value.{valueAt}
 use Rattle.row_spec.specs.declared.Varint.{Varint}
@@ -15,8 +16,10 @@ use Rattle.row_spec.specs.declared.Column.{Column}
 use Rattle.row_spec.specs.declared.ColumnType.{ColumnType}
 use Rattle.row_spec.specs.declared.Field.the-variants.{Null}
 use Rattle.row_laws.proofs.Status.{schema-numbered, on-varint-numbered, on-value-numbered}
-use Rattle.bucket_spec.specs.Piece.{values, hereOf, nth, indexWidth, entriesOf, afterOf, tableOf, constPiece, tablePiece, nullsPiece, live, indexes, dataPiece, piece, entryOf, valueOf}
-use Rattle.bucket_spec.specs.Bucket.{Layout, Judged, along, pieceOf, parts, body, isNull, answer, headNumber, tagsAt, bucket, bucketRefusal, bucketField}
+use Rattle.bucket_spec.specs.Piece.{values, hereOf, nth, indexWidth, entriesOf, afterOf, tableOf, constPiece}
+use Rattle.bucket_spec.specs.Piece.{tablePiece, nullsPiece, live, indexes, dataPiece, piece, entryOf, valueOf}
+use Rattle.bucket_spec.specs.Bucket.{Layout, Judged, along, pieceOf, parts, body, isNull, answer, headNumber, tagsAt}
+use Rattle.bucket_spec.specs.Bucket.{bucket, bucketRefusal, bucketField}
 
 -- ---- values
 module _ (s : List ℕ) (t : ColumnType) where
@@ -24,12 +27,12 @@ module _ (s : List ℕ) (t : ColumnType) where
   unfolding values
   values-numbered zero at = found-numbered _
   values-numbered (suc m) at =
-      on-value-numbered (valueAt true s at t) (refused 31) (refused 32) _ (refused-numbered _) (refused-numbered _) (λ f next. values-numbered m next)
+      on-value-numbered (valueAt true s at t) _ _ _ (λ f next. values-numbered m next)
 
   here-numbered : (p : ℕ) → Numbered (hereOf s t p)
   unfolding hereOf
   here-numbered p =
-      on-value-numbered (valueAt true s p t) (refused 31) (refused 32) _ (refused-numbered _) (refused-numbered _) (λ f next. found-numbered f)
+      on-value-numbered (valueAt true s p t) _ _ _ (λ f next. found-numbered f)
 
   nth-numbered : (at j : ℕ) → Numbered (nth s t at j)
   unfolding nth
@@ -39,11 +42,13 @@ module _ (s : List ℕ) (t : ColumnType) where
   unfolding entryOf
   entry-numbered j table cells = nth-numbered _ _
 
-  value-numbered : (tag : ℕ) (m : Bool) (r const table nulls cells : ℕ) → Numbered (valueOf s t tag m r const table nulls cells)
+  value-numbered : (tag : ℕ) (m : Bool) (r const table nulls cells : ℕ)
+      → Numbered (valueOf s t tag m r const table nulls cells)
   unfolding valueOf
   value-numbered tag m r const table nulls cells =
       pick-numbered (eqb tag 1) _ _ (nth-numbered const 0)
-      (pick-numbered (eqb tag 0) _ _ (nth-numbered cells (live s m nulls r)) (entry-numbered (live s m nulls r) table cells))
+      (pick-numbered (eqb tag 0) _ _ (nth-numbered cells (live s m nulls r))
+      (entry-numbered (live s m nulls r) table cells))
 
   -- ---- one column's pieces
   const-numbered : (tag at : ℕ) → Numbered (constPiece s t tag at)
@@ -53,7 +58,7 @@ module _ (s : List ℕ) (t : ColumnType) where
   table-of-numbered : (r : Varint) → Numbered (tableOf s t r)
   unfolding tableOf
   table-of-numbered r =
-      on-varint-numbered r (refused 31) (refused 32) _ (refused-numbered _) (refused-numbered _) (λ e next.
+      on-varint-numbered r _ _ _ (λ e next.
       need-numbered _ _ _ (values-numbered e next))
 
   table-numbered : (tag at : ℕ) → Numbered (tablePiece s t tag at)
@@ -63,7 +68,9 @@ module _ (s : List ℕ) (t : ColumnType) where
   nulls-numbered : (nullable mapped : Bool) (n at : ℕ) → Numbered (nullsPiece s nullable mapped n at)
   unfolding nullsPiece
   nulls-numbered nullable mapped n at =
-      pick-numbered mapped _ _ (need-numbered _ _ _ (need-numbered _ _ _ (need-numbered _ _ _ (found-numbered (at + ceil8 n))))) (found-numbered at)
+      pick-numbered mapped _ _
+      (need-numbered _ _ _ (need-numbered _ _ _ (need-numbered _ _ _ (found-numbered (at + ceil8 n)))))
+      (found-numbered at)
 
   indexes-numbered : (at m w e : ℕ) → Numbered (indexes s at m w e)
   unfolding indexes
@@ -84,17 +91,21 @@ piece-numbered part s c tag m n table nulls at =
     (pick-numbered (eqb part 2) _ _ (nulls-numbered s (c .ty) (c .nullable) m n at)
     (data-numbered s (c .ty) tag (live s m nulls n) table at)))
 
-along-numbered : (step : ℕ → ℕ → Outcome ℕ) → ((i at : ℕ) → Numbered (step i at)) → (i k at : ℕ) (done : List ℕ) → Numbered (along step i k at done)
+along-numbered : (step : ℕ → ℕ → Outcome ℕ) → ((i at : ℕ) → Numbered (step i at)) → (i k at : ℕ) (done : List ℕ)
+    → Numbered (along step i k at done)
 unfolding along
 along-numbered step h i zero at done = found-numbered _
-along-numbered step h i (suc k) at done = then-numbered _ _ (h i at) (λ next. along-numbered step h (suc i) k next (done ++ (at ∷ [])))
+along-numbered step h i (suc k) at done =
+    then-numbered _ _ (h i at) (λ next. along-numbered step h (suc i) k next (done ++ (at ∷ [])))
 
 -- ---- the whole bucket
 module _ (cols : List Column) (n : ℕ) (s : List ℕ) where
   module _ (tags has : ℕ) where
-    part-numbered : (part : ℕ) (tables nulls : List ℕ) (at : ℕ) → Numbered (along (pieceOf cols n s tags has part tables nulls) 0 (length cols) at [])
+    part-numbered : (part : ℕ) (tables nulls : List ℕ) (at : ℕ)
+        → Numbered (along (pieceOf cols n s tags has part tables nulls) 0 (length cols) at [])
     unfolding pieceOf
-    part-numbered part tables nulls at = along-numbered _ (λ i p. piece-numbered part s _ _ _ n _ _ p) 0 (length cols) at []
+    part-numbered part tables nulls at =
+        along-numbered _ (λ i p. piece-numbered part s _ _ _ n _ _ p) 0 (length cols) at []
 
     body-numbered : Numbered (body cols n s tags has)
     unfolding body parts
@@ -109,11 +120,13 @@ module _ (cols : List Column) (n : ℕ) (s : List ℕ) where
     answer-numbered : (r i : ℕ) (l : Layout) → Numbered (answer cols n s tags has r i l)
     unfolding answer
     answer-numbered r i l =
-        need-numbered _ _ _ (pick-numbered (isNull cols n s tags has l r i) _ _ (found-numbered Null) (value-numbered s _ _ _ _ _ _ _ _))
+        need-numbered _ _ _ (pick-numbered (isNull cols n s tags has l r i) _ _ (found-numbered Null)
+        (value-numbered s _ _ _ _ _ _ _ _))
 
   head-numbered : (k : ℕ) (r : Varint) → Numbered (headNumber k r)
   unfolding headNumber
-  head-numbered k r = on-varint-numbered r (refused 31) (refused 30) _ (refused-numbered _) (refused-numbered _) (λ m next. need-numbered _ _ _ (found-numbered next))
+  head-numbered k r =
+      on-varint-numbered r _ _ _ (λ m next. need-numbered _ _ _ (found-numbered next))
 
   pub bucket-numbered : Numbered (bucket cols n s)
   unfolding bucket tagsAt
@@ -124,7 +137,8 @@ module _ (cols : List Column) (n : ℕ) (s : List ℕ) where
 
 pub bucket-refusal-numbered : (d : List ℕ) (n : ℕ) (s : List ℕ) → Numbered (bucketRefusal d n s)
 unfolding bucketRefusal
-bucket-refusal-numbered d n s = then-numbered _ _ (schema-numbered d) (λ cols. told-numbered _ _ (bucket-numbered cols n s))
+bucket-refusal-numbered d n s =
+    then-numbered _ _ (schema-numbered d) (λ cols. told-numbered _ _ (bucket-numbered cols n s))
 
 pub bucket-field-numbered : (d : List ℕ) (n : ℕ) (s : List ℕ) (r i : ℕ) → Numbered (bucketField d n s r i)
 unfolding bucketField

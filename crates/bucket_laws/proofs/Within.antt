@@ -12,7 +12,8 @@ use Rattle.row_spec.specs.declared.FieldAnswer.{FieldAnswer}
 use Rattle.bucket_spec.specs.Bucket.{bucketField}
 use Rattle.bucket_laws.proofs.Answered.{stored}
 
-pub place-within : (d : List ℕ) (n : ℕ) (s : List ℕ) (r i : ℕ) (a : FieldAnswer) → fieldOutcome a ≡ bucketField d n s r i
+pub place-within : (d : List ℕ) (n : ℕ) (s : List ℕ) (r i : ℕ) (a : FieldAnswer)
+    → fieldOutcome a ≡ bucketField d n s r i
     → after (fieldOutcome a) (inside (length s)) true ≡ true
 place-within d n s r i a e = rw e (by-case (bucketField d n s r i) refl)
   where

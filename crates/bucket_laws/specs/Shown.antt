@@ -1,5 +1,5 @@
 -- What an accepted bucket shows at a row and a column that it has.
-use Prim.Native.Nat.{ℕ, _+_, _*_, _≤_, _<_}
+use Prim.Native.Nat.{ℕ, suc, _+_, _*_, _≤_, _<_}
 use mathlib.Core.Path.{_≡_}
 use mathlib.Core.Logic.{_⊎_}
 use mathlib.Core.Bool.{Bool, true}
@@ -84,9 +84,17 @@ module _ (cols : List Column) (n : ℕ) (s : List ℕ) (b : Judged) (i : ℕ) wh
   abbrev pub DictAt : ℕ → Field → Type 0
   DictAt r f = Entry s (columnAt .ty) tableAt cellsAt (liveBefore n) (liveBefore r) f
 
--- What the field f of row r and column i is. Null exactly if the column is ALL_NULL or its bitmap's bit is set, and then the column
--- may be null. Otherwise "PLAIN has the non-null values; DICT .. has one index for each": the value, or the entry of the index,
--- whose number is how many rows before r are not null; or the one CONST value. Its place, if it is one, lies within the bucket.
+-- The number of rows that are not null, row by row, in a column that is not ALL_NULL.
+pub record Counts (cols : List Column) (n : ℕ) (s : List ℕ) (b : Judged) (i : ℕ) : Type 0 where
+  pub none : liveBefore cols n s b i 0 ≡ 0
+  pub some : (r : ℕ) → (NullAt cols n s b i r → ⊥) → liveBefore cols n s b i (suc r) ≡ suc (liveBefore cols n s b i r)
+  pub null : (r : ℕ) → (tagAt cols n s b i ≡ 3 → ⊥) → NullAt cols n s b i r
+      → liveBefore cols n s b i (suc r) ≡ liveBefore cols n s b i r
+
+-- What the field f of row r and column i is. Null exactly if the column is ALL_NULL or its bitmap's bit is set, and
+-- then the column may be null. Otherwise "PLAIN has the non-null values; DICT .. has one index for each": the value, or
+-- the entry of the index, whose number is how many rows before r are not null; or the one CONST value. Its place, if it
+-- is one, lies within the bucket.
 pub record Shows (cols : List Column) (n : ℕ) (s : List ℕ) (b : Judged) (r i : ℕ) (f : Field) : Type 0 where
   pub null : NullAt cols n s b i r → f ≡ Null
   pub only : f ≡ Null → NullAt cols n s b i r

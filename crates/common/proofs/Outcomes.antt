@@ -1,4 +1,4 @@
--- Outcomes: what was found was found at each step; no refusal is 0, by one law for each form that the definitions are made of.
+-- Outcomes: what was found was found at each step; no refusal is 0, by one law for each form of a definition.
 -- Assumes nothing.
 use mathlib.Core.Path.{_≡_, refl, sym, _∙_}
 use mathlib.Core.Bool.{Bool, true, false}
@@ -6,7 +6,11 @@ use Prim.Native.Nat.{ℕ, suc}
 use native.Mathlib.Omega.{arith}
 use Rattle.common.specs.Outcome.{pick, Outcome, refused, found, then, need, Numbered}
 
-pub then-found : {A B : Type 0} (o : Outcome A) (f : A → Outcome B) (b : B) → then o f ≡ found b → (a : A) × ((o ≡ found a) × (f a ≡ found b))
+pub same-found : {A : Type 0} {a b : A} → found a ≡ found b → a ≡ b
+same-found e = cc
+
+pub then-found : {A B : Type 0} (o : Outcome A) (f : A → Outcome B) (b : B) → then o f ≡ found b
+    → (a : A) × ((o ≡ found a) × (f a ≡ found b))
 then-found (refused n) f b e = absurd (let z : _≡_ {A = ℕ} 0 1 = cc in omega arith)
 then-found (found a) f b e = (a, (refl, e))
 
@@ -26,7 +30,8 @@ pub pick-numbered : {A : Type 0} (t : Bool) (a b : Outcome A) → Numbered a →
 pick-numbered true a b h g = h
 pick-numbered false a b h g = g
 
-pub then-numbered : {A B : Type 0} (o : Outcome A) (f : A → Outcome B) → Numbered o → ((a : A) → Numbered (f a)) → Numbered (then o f)
+pub then-numbered : {A B : Type 0} (o : Outcome A) (f : A → Outcome B) → Numbered o → ((a : A) → Numbered (f a))
+    → Numbered (then o f)
 then-numbered (refused n) f h g e = h (let z : n ≡ 0 = cc in rw z)
 then-numbered (found a) f h g e = g a e
 
@@ -35,6 +40,7 @@ pub told-numbered : {A B : Type 0} (o : Outcome A) (f : A → B) → Numbered o 
 told-numbered o f h = then-numbered o (λ a. found (f a)) h (λ a. found-numbered (f a))
 
 -- The number of an outcome, by any function that gives a refusal's number: where it is 0, something was found.
-pub zero-found : {A : Type 0} (status : Outcome A → ℕ) → ((n : ℕ) → status (refused n) ≡ n) → (o : Outcome A) → Numbered o → status o ≡ 0 → (a : A) × (o ≡ found a)
+pub zero-found : {A : Type 0} (status : Outcome A → ℕ) → ((n : ℕ) → status (refused n) ≡ n) → (o : Outcome A)
+    → Numbered o → status o ≡ 0 → (a : A) × (o ≡ found a)
 zero-found status number (refused n) h e = absurd (h (let z : n ≡ 0 = sym (number n) ∙ e in rw z))
 zero-found status number (found a) h e = (a, refl)

@@ -21,17 +21,17 @@ use Rattle.row_spec.specs.declared.Value.the-variants.{Read, CutShort, Bad}
 use Rattle.row_laws.proofs.Read.{schema-refused}
 
 -- ---- by what was read
-pub on-varint-numbered : {A : Type 0} (r : Varint) (cut ill : Outcome A) (f : ℕ → ℕ → Outcome A) → Numbered cut → Numbered ill
-    → ((n next : ℕ) → Numbered (f n next)) → Numbered (onVarint r cut ill f)
-on-varint-numbered varint.CutShort cut ill f c i h = c
-on-varint-numbered varint.IllFormed cut ill f c i h = i
-on-varint-numbered (varint.Number n next) cut ill f c i h = h n next
+pub on-varint-numbered : {A : Type 0} (r : Varint) (cut ill : ℕ) (f : ℕ → ℕ → Outcome A)
+    → ((n next : ℕ) → Numbered (f n next)) → Numbered (onVarint r (refused (suc cut)) (refused (suc ill)) f)
+on-varint-numbered varint.CutShort cut ill f h = refused-numbered cut
+on-varint-numbered varint.IllFormed cut ill f h = refused-numbered ill
+on-varint-numbered (varint.Number n next) cut ill f h = h n next
 
-pub on-value-numbered : {A : Type 0} (v : Value) (cut bad : Outcome A) (f : Field → ℕ → Outcome A) → Numbered cut → Numbered bad
-    → ((x : Field) (next : ℕ) → Numbered (f x next)) → Numbered (onValue v cut bad f)
-on-value-numbered CutShort cut bad f c b h = c
-on-value-numbered Bad cut bad f c b h = b
-on-value-numbered (Read x next) cut bad f c b h = h x next
+pub on-value-numbered : {A : Type 0} (v : Value) (cut bad : ℕ) (f : Field → ℕ → Outcome A)
+    → ((x : Field) (next : ℕ) → Numbered (f x next)) → Numbered (onValue v (refused (suc cut)) (refused (suc bad)) f)
+on-value-numbered CutShort cut bad f h = refused-numbered cut
+on-value-numbered Bad cut bad f h = refused-numbered bad
+on-value-numbered (Read x next) cut bad f h = h x next
 
 -- ---- schemas: their one refusal is 20
 pub schema-numbered : (d : List ℕ) → Numbered (schema d)
@@ -46,25 +46,32 @@ unfolding columnOf
 column-of-numbered d i = then-numbered _ _ (schema-numbered d) (λ cols. need-numbered _ _ _ (found-numbered _))
 
 -- ---- row blocks
-fields-numbered : (s : List ℕ) (base i : ℕ) (cols : List Column) (at : ℕ) (done : List Field) → Numbered (fields s base i cols at done)
+fields-numbered : (s : List ℕ) (base i : ℕ) (cols : List Column) (at : ℕ) (done : List Field)
+    → Numbered (fields s base i cols at done)
 unfolding fields
 fields-numbered s base i [] at done = found-numbered _
 fields-numbered s base i (c ∷ cols) at done =
-    on-value-numbered (fieldAt s base i c at) (refused 24) (refused 24) _ (refused-numbered _) (refused-numbered _) (λ f next. fields-numbered s base (suc i) cols next (done ++ (f ∷ [])))
+    on-value-numbered (fieldAt s base i c at) _ _ _ (λ f next.
+    fields-numbered s base (suc i) cols next (done ++ (f ∷ [])))
 
 row-numbered : (s : List ℕ) (cols : List Column) (at : ℕ) → Numbered (row s cols at)
 unfolding row
-row-numbered s cols at = need-numbered _ _ _ (need-numbered _ _ _ (fields-numbered s at 0 cols (at + ceil8 (length cols)) []))
+row-numbered s cols at =
+    need-numbered _ _ _ (need-numbered _ _ _ (fields-numbered s at 0 cols (at + ceil8 (length cols)) []))
 
-rows-numbered : (s : List ℕ) (cols : List Column) (end i k at : ℕ) (done : List (List Field)) → Numbered (rows s cols end i k at done)
+rows-numbered : (s : List ℕ) (cols : List Column) (end i k at : ℕ) (done : List (List Field))
+    → Numbered (rows s cols end i k at done)
 unfolding rows
 rows-numbered s cols end i zero at done = need-numbered _ _ _ (found-numbered _)
 rows-numbered s cols end i (suc k) at done =
-    need-numbered _ _ _ (then-numbered _ _ (row-numbered (take end s) cols at) (λ r. rows-numbered s cols end (suc i) k (r .next) (done ++ ((r .fields) ∷ []))))
+    need-numbered _ _ _ (then-numbered _ _ (row-numbered (take end s) cols at) (λ r.
+    rows-numbered s cols end (suc i) k (r .next) (done ++ ((r .fields) ∷ []))))
 
 pub block-numbered : (cols : List Column) (s : List ℕ) → Numbered (block cols s)
 unfolding block counted
-block-numbered cols s = let n = littleAt s (length s - 4) 4 in need-numbered _ _ _ (need-numbered _ _ _ (rows-numbered s cols (length s - 4 - 4 * n) 0 n 0 []))
+block-numbered cols s =
+    let n = littleAt s (length s - 4) 4 in
+    need-numbered _ _ _ (need-numbered _ _ _ (rows-numbered s cols (length s - 4 - 4 * n) 0 n 0 []))
 
 pub row-count-numbered : (d s : List ℕ) → Numbered (rowCount d s)
 unfolding rowCount
@@ -74,4 +81,4 @@ pub block-field-numbered : (d s : List ℕ) (r c : ℕ) → Numbered (blockField
 unfolding blockField asked
 block-field-numbered d s r c =
     then-numbered _ _ (schema-numbered d)
-        (λ cols. then-numbered _ _ (block-numbered cols s) (λ rs. need-numbered _ _ _ (found-numbered _)))
+    (λ cols. then-numbered _ _ (block-numbered cols s) (λ rs. need-numbered _ _ _ (found-numbered _)))

@@ -15,7 +15,8 @@ use lib.Ieee.{Format, nanBits, ofBits, binary32, binary64}
 use Rattle.common.specs.Outcome.{pick}
 use Rattle.common.specs.Bytes.{lowBit}
 use Rattle.row_spec.specs.Varint.{varintAt}
-use Rattle.row_spec.specs.Value.{pattern, storageOf, wordAt, room, wholeAt, booleanAt, sizedOf, nanosOf, countAt, storedAt, valueAt}
+use Rattle.row_spec.specs.Value.{pattern, storageOf, wordAt, room, wholeAt, booleanAt, sizedOf, nanosOf, countAt}
+use Rattle.row_spec.specs.Value.{storedAt, valueAt}
 use Rattle.row_spec.specs.Block.{fieldAt}
 use Rattle.row_spec.specs.Answer.{inside}
 use Rattle.row_spec.specs.declared.Column.{Column}
@@ -59,7 +60,8 @@ module _ (s : List ℕ) (test : Field → Bool) (f : Field) (next : ℕ) where
   chosen true v e = e
   chosen false v e = clash (cc)
 
-  float-passes : (g : Format) (bits : ℕ → Field) (float : ieee.Float → Field) (m p : ℕ) → ((k : ℕ) → test (bits k) ≡ true) → ((x : ieee.Float) → test (float x) ≡ true)
+  float-passes : (g : Format) (bits : ℕ → Field) (float : ieee.Float → Field) (m p : ℕ)
+      → ((k : ℕ) → test (bits k) ≡ true) → ((x : ieee.Float) → test (float x) ≡ true)
       → Read (pattern g bits float m) p ≡ Read f next → test f ≡ true
   unfolding pattern
   float-passes g bits float m p b x e = from (pattern g bits float m) p (by-test (nanBits g m)) e
@@ -89,18 +91,22 @@ module _ (s : List ℕ) (test : Field → Bool) (f : Field) (next : ℕ) where
 
     stored-passes : (big : Bool) (at : ℕ) (st : Storage) → storedAt big s at st ≡ Read f next → test f ≡ true
     unfolding storedAt booleanAt
-    stored-passes big at storage.Boolean e = from _ (at + 1) (ok .bool _) (chosen (leb (getD s at 0) 1) _ (roomed at 1 _ e .1))
+    stored-passes big at storage.Boolean e =
+        from _ (at + 1) (ok .bool _) (chosen (leb (getD s at 0) 1) _ (roomed at 1 _ e .1))
     stored-passes big at storage.Int8 e = whole-passes big at 1 128 e
     stored-passes big at storage.Int16 e = whole-passes big at 2 32768 e
     stored-passes big at storage.Int32 e = whole-passes big at 4 2147483648 e
     stored-passes big at storage.Int64 e = whole-passes big at 8 9223372036854775808 e
     stored-passes big at storage.Float32 e =
-        float-passes binary32 field.NanF32 field.F32 (wordAt big s at 4) (at + 4) (ok .float-bits) (ok .float) (roomed at 4 _ e .1)
+        float-passes binary32 field.NanF32 field.F32 (wordAt big s at 4) (at + 4) (ok .float-bits) (ok .float)
+        (roomed at 4 _ e .1)
     stored-passes big at storage.Float64 e =
-        float-passes binary64 field.NanF64 field.F64 (wordAt big s at 8) (at + 8) (ok .double-bits) (ok .double) (roomed at 8 _ e .1)
+        float-passes binary64 field.NanF64 field.F64 (wordAt big s at 8) (at + 8) (ok .double-bits) (ok .double)
+        (roomed at 8 _ e .1)
     stored-passes big at (storage.Sized least) e = sized-passes least (varintAt s at) e
     stored-passes big at storage.Time e = from _ (at + 8) (ok .time _ 0) (roomed at 8 _ e .1)
-    stored-passes big at storage.TimeVarint e = nanos-passes (countAt big s at) (varintAt s (at + 8)) (roomed at 8 _ e .1)
+    stored-passes big at storage.TimeVarint e =
+        nanos-passes (countAt big s at) (varintAt s (at + 8)) (roomed at 8 _ e .1)
     stored-passes big at storage.TimeFixed e =
         nanos-passes (countAt big s at) (varint.Number (wordAt big s (at + 8) 4) (at + 12)) (roomed at 12 _ e .1)
 
@@ -111,12 +117,23 @@ module _ (s : List ℕ) (f : Field) (next : ℕ) (big : Bool) (at : ℕ) (t : Co
   value-inside e = stored-passes s (inside (length s)) f next passes big at (storageOf big t) e
     where
       passes : Passes s (inside (length s))
-      passes = record { bool = λ b. refl; whole = λ z. refl; float = λ x. refl; float-bits = λ n. refl; double = λ x. refl; double-bits = λ n. refl; time = λ z n. refl; place = λ a l h. h }
+      passes =
+          record {
+            bool = λ b. refl;
+            whole = λ z. refl;
+            float = λ x. refl;
+            float-bits = λ n. refl;
+            double = λ x. refl;
+            double-bits = λ n. refl;
+            time = λ z n. refl;
+            place = λ a l h. h;
+          }
 
   -- a value is never Null
   pub value-some : valueAt big s at t ≡ Read f next → f ≡ field.Null → ⊥
   unfolding valueAt
-  value-some e q = let z : some f ≡ true = stored-passes s some f next passes big at (storageOf big t) e in never (rw q at z)
+  value-some e q =
+      let z : some f ≡ true = stored-passes s some f next passes big at (storageOf big t) e in never (rw q at z)
     where
       some : Field → Bool
       some field.Null = false
@@ -130,14 +147,30 @@ module _ (s : List ℕ) (f : Field) (next : ℕ) (big : Bool) (at : ℕ) (t : Co
       some (field.Place a l) = true
 
       passes : Passes s some
-      passes = record { bool = λ b. refl; whole = λ z. refl; float = λ x. refl; float-bits = λ n. refl; double = λ x. refl; double-bits = λ n. refl; time = λ z n. refl; place = λ a l h. refl }
+      passes =
+          record {
+            bool = λ b. refl;
+            whole = λ z. refl;
+            float = λ x. refl;
+            float-bits = λ n. refl;
+            double = λ x. refl;
+            double-bits = λ n. refl;
+            time = λ z n. refl;
+            place = λ a l h. refl;
+          }
 
       never : false ≡ true → ⊥
       never h = let z : _≡_ {A = ℕ} 0 1 = cc in omega arith
 
 -- a field of a row that was read: null by its bit, in a column that may be null, or the value of its column's type
-pub field-cases : (s : List ℕ) (base i : ℕ) (c : Column) (at : ℕ) (f : Field) (next : ℕ) → fieldAt s base i c at ≡ Read f next
-    → ((lowBit s base i ≡ 1) × ((c .nullable ≡ true) × (f ≡ field.Null))) ⊎ ((lowBit s base i ≡ 1 → ⊥) × (valueAt false s at (c .ty) ≡ Read f next))
+abbrev pub NullField : List ℕ → ℕ → ℕ → Column → Field → Type 0
+NullField s base i c f = (lowBit s base i ≡ 1) × ((c .nullable ≡ true) × (f ≡ field.Null))
+
+abbrev pub ValueField : List ℕ → ℕ → ℕ → Column → ℕ → Field → ℕ → Type 0
+ValueField s base i c at f next = (lowBit s base i ≡ 1 → ⊥) × (valueAt false s at (c .ty) ≡ Read f next)
+
+pub field-cases : (s : List ℕ) (base i : ℕ) (c : Column) (at : ℕ) (f : Field) (next : ℕ)
+    → fieldAt s base i c at ≡ Read f next → NullField s base i c f ⊎ ValueField s base i c at f next
 unfolding fieldAt
 field-cases s base i c at f next e = by-bit (eqb (lowBit s base i) 1) refl e
   where
@@ -145,7 +178,8 @@ field-cases s base i c at f next e = by-bit (eqb (lowBit s base i) 1) refl e
     by-nullable true q = (refl, let z : f ≡ field.Null = cc in z)
     by-nullable false q = clash (cc)
 
-    by-bit : (t : Bool) → eqb (lowBit s base i) 1 ≡ t → pick t (pick (c .nullable) (Read field.Null at) Bad) (valueAt false s at (c .ty)) ≡ Read f next
-        → ((lowBit s base i ≡ 1) × ((c .nullable ≡ true) × (f ≡ field.Null))) ⊎ ((lowBit s base i ≡ 1 → ⊥) × (valueAt false s at (c .ty) ≡ Read f next))
+    by-bit : (t : Bool) → eqb (lowBit s base i) 1 ≡ t
+        → pick t (pick (c .nullable) (Read field.Null at) Bad) (valueAt false s at (c .ty)) ≡ Read f next
+        → NullField s base i c f ⊎ ValueField s base i c at f next
     by-bit true h q = inl (eqb-true (lowBit s base i) 1 h, by-nullable (c .nullable) q)
     by-bit false h q = inr (eqb-false (lowBit s base i) 1 h, q)
