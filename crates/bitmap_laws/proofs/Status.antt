@@ -1,8 +1,8 @@
 -- No call on bitmaps refuses with 0: each definition is a walk down nested needs, and no need's number is 0.
 -- Assumes nothing.
-use mathlib.Core.List.{List, [], _∷_, _++_}
+use mathlib.Core.List.{List, [], _++_}
 use Prim.Native.Nat.{ℕ, zero, suc, _/_, _%_}
-use Rattle.common.specs.Outcome.{Outcome, refused, found, then, need, Numbered}
+use Rattle.common.specs.Outcome.{Numbered}
 use Rattle.common.specs.Bytes.{littleAt}
 use Rattle.common.proofs.Outcomes.{found-numbered, need-numbered, then-numbered, told-numbered}
 use Rattle.bitmap_spec.specs.Judge.{Chunk, headAt, chunkWith, chunk, lastChunk, chunks, judgeBody, judge}

@@ -2,37 +2,37 @@
 -- piece of the column was read where it starts, and the row's number among those that are not null is below how many
 -- values or indexes there are.
 -- Assumes nothing.
-use mathlib.Core.Path.{_≡_, refl, sym, ap, _∙_}
+use mathlib.Core.Path.{_≡_, refl, sym, _∙_}
 use mathlib.Core.Bool.{Bool, true, false, not}
 use mathlib.Core.Logic.{_⊎_, inl, inr, ⊎-elim}
 use mathlib.Core.List.{List}
 use Prim.Native.Nat.{ℕ, zero, suc, _+_, _*_, _<_}
 use native.Mathlib.Omega.{arith}
 use borrow.Author.Tests.{eqb-true, eqb-false, ne-eqb, lt-ltb, ltb-true}
-use lib.ListN.{length, getD}
+use lib.ListN.{length}
 use lib.Dec.{ltb, eqb}
-use Rattle.common.specs.Outcome.{pick, both, either, Outcome, refused, found, then, need}
-use Rattle.common.specs.Bytes.{ceil8, lowBit, lowBits}
+use Rattle.common.specs.Outcome.{pick, both, either, found, need}
+use Rattle.common.specs.Bytes.{ceil8, lowBit}
 use Rattle.common.proofs.Lists.{both-left, both-right}
 use Rattle.common.proofs.Outcomes.{same-found, then-found}
 use Rattle.common.proofs.LowBits.{bits-small}
-use Rattle.row_spec.specs.Schema.{schema, blankColumn}
+use Rattle.row_spec.specs.Schema.{schema}
 use Rattle.row_spec.specs.Answer.{inside}
 use Rattle.row_spec.specs.declared.Column.{Column}
 use Rattle.row_spec.specs.declared.Field.{Field}
 use Rattle.row_spec.specs.declared.Field.the-variants.{Null}
 use Rattle.row_laws.proofs.Read.{need-found}
 use Rattle.row_laws.proofs.Values.{value-inside, value-some}
-use Rattle.bucket_spec.specs.Piece.{indexWidth, live, valueOf}
-use Rattle.bucket_spec.specs.Bucket.{Layout, Judged, colOf, tagOf, mapped, pieceOf, tagAllowed, isNull, answer, bucket}
+use Rattle.bucket_spec.specs.Piece.{valueOf}
+use Rattle.bucket_spec.specs.Bucket.{Judged, colOf, tagOf, mapped, pieceOf, tagAllowed, isNull, answer, bucket}
 use Rattle.bucket_spec.specs.Bucket.{bucketField}
 use Rattle.bucket_laws.specs.Shown.{Among, columnAt, tagAt, hasNulls, constAt, tableAt, nullsAt, cellsAt, NullAt}
 use Rattle.bucket_laws.specs.Shown.{liveBefore}
-use Rattle.bucket_laws.specs.Shown.{PlainAt, ConstAt, DictAt, Counts, Shows, Answered, Stored}
+use Rattle.bucket_laws.specs.Shown.{PlainAt, ConstAt, DictAt, Counts, Answered, Stored}
 use Rattle.bucket_laws.proofs.Runs.{run-value, run-nth}
 use Rattle.bucket_laws.proofs.Live.{live-none, live-next, live-same, live-less}
 use Rattle.bucket_laws.proofs.Laid.{Pieces, bucket-pieces}
-use Rattle.bucket_laws.proofs.Pieces.{Table, const-read, table-read, nulls-read, plain-read, dict-read}
+use Rattle.bucket_laws.proofs.Pieces.{const-read, table-read, nulls-read, plain-read, dict-read}
 use Rattle.bucket_laws.proofs.Pieces.{value-const, value-plain, value-dict}
 
 -- ---- tests on numbers

@@ -2,14 +2,14 @@
 -- that it starts.
 -- Assumes nothing.
 use mathlib.Core.Path.{_≡_, refl, ap, subst}
-use mathlib.Core.Bool.{Bool, true, false}
+use mathlib.Core.Bool.{true}
 use mathlib.Core.List.{List, [], _∷_, _++_}
 use Prim.Native.Nat.{ℕ, zero, suc, _+_, _*_, _<_}
 use native.Mathlib.Nat.{not-suc-le-zero}
 use native.Mathlib.Omega.{arith}
 use lib.ListN.{length, getD, length-append}
-use lib.Dec.{leb, eqb}
-use Rattle.common.specs.Outcome.{both, Outcome, refused, found, then, need}
+use lib.Dec.{leb}
+use Rattle.common.specs.Outcome.{both, Outcome, found}
 use Rattle.common.specs.Lists.{from, every}
 use Rattle.common.specs.Bytes.{ceil8, lowSpareZero}
 use Rattle.common.proofs.Lists.{every-each}

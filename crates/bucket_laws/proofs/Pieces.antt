@@ -1,6 +1,6 @@
 -- What a column's piece holds once it was read, by the column's tag.
 -- Assumes nothing.
-use mathlib.Core.Path.{_≡_, refl, sym, ap, _∙_}
+use mathlib.Core.Path.{_≡_, refl}
 use mathlib.Core.Bool.{Bool, true, false}
 use mathlib.Core.List.{List}
 use Prim.Native.Nat.{ℕ, _+_, _*_, _≤_, _<_}
@@ -8,9 +8,9 @@ use native.Mathlib.Omega.{arith}
 use borrow.Author.Tests.{leb-true, ltb-true, eqb-true}
 use lib.ListN.{length}
 use lib.Dec.{leb, ltb, eqb}
-use Rattle.common.specs.Outcome.{pick, both, either, Outcome, refused, found, need}
+use Rattle.common.specs.Outcome.{both, either, refused, found, need}
 use Rattle.common.specs.Lists.{from, every}
-use Rattle.common.specs.Bytes.{ceil8, lowBit, lowBits, lowCount, lowSpareZero}
+use Rattle.common.specs.Bytes.{ceil8, lowBit, lowBits, lowCount}
 use Rattle.common.proofs.Lists.{both-left, both-right, every-each}
 use Rattle.row_spec.specs.Varint.{varintAt, onVarint}
 use Rattle.row_spec.specs.declared.Varint.{Varint}
@@ -19,7 +19,7 @@ use Rattle.row_spec.specs.declared.Column.{Column}
 use Rattle.row_spec.specs.declared.ColumnType.{ColumnType}
 use Rattle.row_spec.specs.declared.Field.{Field}
 use Rattle.row_laws.proofs.Read.{need-found}
-use Rattle.bucket_spec.specs.Piece.{values, nth, indexWidth, entriesOf, tableOf, constPiece, tablePiece, nullsPiece}
+use Rattle.bucket_spec.specs.Piece.{values, nth, indexWidth, tableOf, constPiece, tablePiece, nullsPiece}
 use Rattle.bucket_spec.specs.Piece.{live, indexes, dataPiece, piece, entryOf, valueOf}
 use Rattle.bucket_laws.proofs.Live.{count-none}
 

@@ -1,12 +1,12 @@
 -- Value j of a run that was read to its end is there: the values before it end at its place, and it is read there.
 -- Assumes nothing.
-use mathlib.Core.Path.{_≡_, refl, ap, _∙_}
+use mathlib.Core.Path.{_≡_, refl, _∙_}
 use mathlib.Core.Bool.{true}
 use mathlib.Core.List.{List}
 use Prim.Native.Nat.{ℕ, zero, suc, _<_}
 use native.Mathlib.Nat.{not-suc-le-zero, le-of-suc-le-suc}
 use native.Mathlib.Omega.{arith}
-use Rattle.common.specs.Outcome.{Outcome, refused, found, then}
+use Rattle.common.specs.Outcome.{refused, found, then}
 use Rattle.row_spec.specs.Value.{valueAt, onValue}
 use Rattle.row_spec.specs.declared.ColumnType.{ColumnType}
 use Rattle.row_spec.specs.declared.Field.{Field}

@@ -3,11 +3,11 @@
 use mathlib.Core.List.{List, [], _∷_, _++_}
 use mathlib.Core.Bool.{Bool, true}
 use Prim.Native.Nat.{ℕ, zero, suc, _+_, _*_}
-use lib.ListN.{length, getD}
+use lib.ListN.{length}
 use lib.Dec.{eqb}
-use Rattle.common.specs.Outcome.{Outcome, refused, found, then, need, Numbered}
+use Rattle.common.specs.Outcome.{Outcome, refused, Numbered}
 use Rattle.common.specs.Bytes.{ceil8}
-use Rattle.common.proofs.Outcomes.{found-numbered, refused-numbered, need-numbered, pick-numbered, then-numbered}
+use Rattle.common.proofs.Outcomes.{found-numbered, need-numbered, pick-numbered, then-numbered}
 use Rattle.common.proofs.Outcomes.{told-numbered}
 use Rattle.row_spec.specs.Varint.{varintAt}
 use Rattle.row_spec.specs.Value.{valueAt}
@@ -16,9 +16,9 @@ use Rattle.row_spec.specs.declared.Column.{Column}
 use Rattle.row_spec.specs.declared.ColumnType.{ColumnType}
 use Rattle.row_spec.specs.declared.Field.the-variants.{Null}
 use Rattle.row_laws.proofs.Status.{schema-numbered, on-varint-numbered, on-value-numbered}
-use Rattle.bucket_spec.specs.Piece.{values, hereOf, nth, indexWidth, entriesOf, afterOf, tableOf, constPiece}
+use Rattle.bucket_spec.specs.Piece.{values, hereOf, nth, tableOf, constPiece}
 use Rattle.bucket_spec.specs.Piece.{tablePiece, nullsPiece, live, indexes, dataPiece, piece, entryOf, valueOf}
-use Rattle.bucket_spec.specs.Bucket.{Layout, Judged, along, pieceOf, parts, body, isNull, answer, headNumber, tagsAt}
+use Rattle.bucket_spec.specs.Bucket.{Layout, along, pieceOf, parts, body, isNull, answer, headNumber, tagsAt}
 use Rattle.bucket_spec.specs.Bucket.{bucket, bucketRefusal, bucketField}
 
 -- ---- values

@@ -2,10 +2,10 @@
 use Prim.Native.Nat.{ℕ, suc, _+_, _*_, _≤_, _<_}
 use mathlib.Core.Path.{_≡_}
 use mathlib.Core.Logic.{_⊎_}
-use mathlib.Core.Bool.{Bool, true}
+use mathlib.Core.Bool.{true}
 use mathlib.Core.List.{List}
 use lib.ListN.{length, getD}
-use Rattle.common.specs.Outcome.{Outcome, found}
+use Rattle.common.specs.Outcome.{found}
 use Rattle.common.specs.Bytes.{ceil8, lowBit, lowBits}
 use Rattle.row_spec.specs.Varint.{varintAt}
 use Rattle.row_spec.specs.Schema.{schema, blankColumn}
@@ -18,7 +18,7 @@ use Rattle.row_spec.specs.declared.Field.{Field}
 use Rattle.row_spec.specs.declared.Field.the-variants.{Null}
 use Rattle.row_spec.specs.declared.Value.the-variants.{Read}
 use Rattle.bucket_spec.specs.Piece.{values, indexWidth, live}
-use Rattle.bucket_spec.specs.Bucket.{Layout, Judged, mapped, bucket, bucketField}
+use Rattle.bucket_spec.specs.Bucket.{Judged, mapped, bucket, bucketField}
 
 -- Of m values of a type from at on, f is value j: it is read where the j before it end.
 pub record Among (s : List ℕ) (t : ColumnType) (at m j : ℕ) (f : Field) : Type 0 where

@@ -1,28 +1,26 @@
 -- Of an accepted block: a row has a field for each column, every place lies within the bytes, and each field is what is
 -- stored: null by the row's bit, or the value of its column's type where the fields before it end.
 -- Assumes nothing.
-use mathlib.Core.Path.{_≡_, refl, sym, ap, _∙_}
+use mathlib.Core.Path.{_≡_, refl}
 use mathlib.Core.Bool.{Bool, true, false}
-use mathlib.Core.Logic.{_⊎_, inl, inr, ⊎-elim}
+use mathlib.Core.Logic.{_⊎_, ⊎-elim}
 use mathlib.Core.List.{List, []}
-use Prim.Native.Nat.{ℕ, suc, _+_, _-_, _*_, _≤_, _<_}
+use Prim.Native.Nat.{ℕ, suc, _+_, _*_, _≤_, _<_}
 use native.Mathlib.Omega.{arith}
 use native.Mathlib.Nat.{min-le-right}
 use borrow.Author.Tests.{leb-true, le-leb, lt-ltb, ltb-true, ltb-false}
-use lib.ListN.{length, getD, take, length-take, List·getD-eq-default}
+use lib.ListN.{length, getD, length-take, List·getD-eq-default}
 use lib.Dec.{leb, ltb}
-use Rattle.common.specs.Outcome.{both, Outcome, found, then, need}
+use Rattle.common.specs.Outcome.{both, found, need}
 use Rattle.common.proofs.Lists.{both-left, both-right}
 use Rattle.common.proofs.Outcomes.{same-found, then-found}
 use Rattle.row_spec.specs.Schema.{schema, blankColumn}
-use Rattle.row_spec.specs.Value.{valueAt}
 use Rattle.row_spec.specs.Block.{rows, counted, block, asked, blockField}
 use Rattle.row_spec.specs.Answer.{inside}
 use Rattle.row_spec.specs.declared.Column.{Column}
 use Rattle.row_spec.specs.declared.Field.{Field}
 use Rattle.row_spec.specs.declared.Field.the-variants as field
-use Rattle.row_spec.specs.declared.Value.the-variants.{Read}
-use Rattle.row_laws.specs.Shown.{rowStart, countOf, offsetsAt, rowBytes, Touches, nullBit, fieldPlace, Shows}
+use Rattle.row_laws.specs.Shown.{rowStart, countOf, offsetsAt, rowBytes, Touches, fieldPlace, Shows}
 use Rattle.row_laws.specs.Shown.{Stored}
 use Rattle.row_laws.proofs.Read.{need-found}
 use Rattle.row_laws.proofs.Values.{value-inside, value-some, NullField, ValueField, field-cases}

@@ -11,10 +11,9 @@ use native.Mathlib.Numerals.{add-one}
 use borrow.Author.Tests.{eqb-true, eqb-false}
 use lib.ListN.{length, getD, take, drop, length-append, List·getD-eq-default}
 use lib.Dec.{leb, eqb}
-use Rattle.common.specs.Outcome.{pick, Outcome, refused, found, then}
+use Rattle.common.specs.Outcome.{pick, Outcome, found}
 use Rattle.common.specs.Bytes.{ceil8, littleAt, lowSpareZero}
 use Rattle.row_spec.specs.Schema.{blankColumn}
-use Rattle.row_spec.specs.Value.{onValue}
 use Rattle.row_spec.specs.Block.{Row, fieldAt, fields, row, rows}
 use Rattle.row_spec.specs.declared.Column.{Column}
 use Rattle.row_spec.specs.declared.Field.{Field}

@@ -1,17 +1,16 @@
 -- No question about schemas and row blocks is refused with 0.
 -- Assumes nothing.
-use mathlib.Core.Path.{_≡_}
 use mathlib.Core.List.{List, [], _∷_, _++_}
 use Prim.Native.Nat.{ℕ, zero, suc, _+_, _-_, _*_}
 use native.Mathlib.Omega.{arith}
 use lib.ListN.{length, take}
-use Rattle.common.specs.Outcome.{Outcome, refused, found, then, need, Numbered}
+use Rattle.common.specs.Outcome.{Outcome, refused, Numbered}
 use Rattle.common.specs.Bytes.{ceil8, littleAt}
 use Rattle.common.proofs.Outcomes.{found-numbered, refused-numbered, need-numbered, then-numbered, told-numbered}
 use Rattle.row_spec.specs.Varint.{onVarint}
 use Rattle.row_spec.specs.Schema.{schema, columnCount, columnOf}
 use Rattle.row_spec.specs.Value.{onValue}
-use Rattle.row_spec.specs.Block.{Row, fieldAt, fields, row, rows, counted, block, asked, rowCount, blockField}
+use Rattle.row_spec.specs.Block.{fieldAt, fields, row, rows, counted, block, asked, rowCount, blockField}
 use Rattle.row_spec.specs.declared.Column.{Column}
 use Rattle.row_spec.specs.declared.Field.{Field}
 use Rattle.row_spec.specs.declared.Varint.{Varint}

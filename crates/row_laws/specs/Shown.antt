@@ -4,7 +4,7 @@ use mathlib.Core.Path.{_≡_}
 use mathlib.Core.Bool.{true, false}
 use mathlib.Core.List.{List}
 use lib.ListN.{length, getD, take}
-use Rattle.common.specs.Outcome.{Outcome, found}
+use Rattle.common.specs.Outcome.{found}
 use Rattle.common.specs.Bytes.{ceil8, littleAt, lowBit}
 use Rattle.row_spec.specs.Schema.{schema, blankColumn}
 use Rattle.row_spec.specs.Value.{valueAt, onValue}
