@@ -1,15 +1,18 @@
 -- No question about a bucket is refused with 0.
 -- Assumes nothing.
+use mathlib.Core.Path.{_≡_, refl}
 use mathlib.Core.List.{List, [], _∷_, _++_}
 use mathlib.Core.Bool.{Bool, true}
 use Prim.Native.Nat.{ℕ, zero, suc, _+_, _*_}
 use lib.ListN.{length}
 use lib.Dec.{eqb}
-use Rattle.common.specs.Outcome.{Outcome, refused, Numbered}
+use Rattle.common.specs.Outcome.{Outcome, refused, found, Numbered}
 use Rattle.common.specs.Bytes.{ceil8}
 use Rattle.common.proofs.Outcomes.{found-numbered, need-numbered, pick-numbered, then-numbered}
-use Rattle.common.proofs.Outcomes.{told-numbered}
+use Rattle.common.proofs.Outcomes.{told-numbered, zero-found, then-found}
 use Rattle.row_spec.specs.Varint.{varintAt}
+use Rattle.row_spec.specs.Schema.{schema}
+use Rattle.row_spec.specs.Answer.{refusal}
 use Rattle.row_spec.specs.Value.{valueAt}
 use Rattle.row_spec.specs.declared.Varint.{Varint}
 use Rattle.row_spec.specs.declared.Column.{Column}
@@ -18,7 +21,7 @@ use Rattle.row_spec.specs.declared.Field.the-variants.{Null}
 use Rattle.row_laws.proofs.Status.{schema-numbered, on-varint-numbered, on-value-numbered}
 use Rattle.bucket_spec.specs.Piece.{values, hereOf, nth, tableOf, constPiece}
 use Rattle.bucket_spec.specs.Piece.{tablePiece, nullsPiece, live, indexes, dataPiece, piece, entryOf, valueOf}
-use Rattle.bucket_spec.specs.Bucket.{Layout, along, pieceOf, parts, body, isNull, answer, headNumber, tagsAt}
+use Rattle.bucket_spec.specs.Bucket.{Judged, Layout, along, pieceOf, parts, body, isNull, answer, headNumber, tagsAt}
 use Rattle.bucket_spec.specs.Bucket.{bucket, bucketRefusal, bucketField}
 
 -- ---- values
@@ -146,3 +149,13 @@ bucket-field-numbered d n s r i =
     then-numbered _ _ (schema-numbered d) (λ cols.
     then-numbered _ _ (bucket-numbered cols n s) (λ b.
     answer-numbered cols n s (b .tags) (b .tags + ceil8 (2 * length cols)) r i (b .layout)))
+
+-- so a check's 0 says that schema and bucket are accepted
+pub bucket-zero : (d : List ℕ) (n : ℕ) (s : List ℕ) → refusal (bucketRefusal d n s) ≡ 0
+    → (cols : List Column) × ((schema d ≡ found cols) × ((b : Judged) × (bucket cols n s ≡ found b)))
+unfolding bucketRefusal
+bucket-zero d n s e =
+    let m = zero-found refusal (λ k. refl) (bucketRefusal d n s) (bucket-refusal-numbered d n s) e in
+    let c = then-found (schema d) _ (m .0) (m .1) in
+    let b = then-found (bucket (c .0) n s) _ (m .0) (c .1 .1) in
+    (c .0, (c .1 .0, (b .0, b .1 .0)))

@@ -8,7 +8,10 @@ field-requires : tie.Need-field-requires
 field-requires c κs = search needs
 
 part-requires : tie.Need-part-requires
-part-requires c κs = place-within (c .before .before .before .args .schema-bytes .now) (c .before .before .before .args .rows) (c .before .before .before .args .bucket .now) (c .before .before .before .args .row) (c .before .before .before .args .column) (c .field .result) (c .field .ensures)
+part-requires c κs =
+    let args = c .before .before .before .args in
+    place-within (args .schema-bytes .now) (args .rows) (args .bucket .now) (args .row) (args .column)
+    (c .field .result) (c .field .ensures)
 
 returns : tie.Need-returns
 returns c = rw (← c .before .field .ensures) (c .part .ensures)
