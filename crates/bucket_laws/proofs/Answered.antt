@@ -5,7 +5,7 @@
 use mathlib.Core.Path.{_≡_, refl, sym, _∙_}
 use mathlib.Core.Bool.{Bool, true, false, not}
 use mathlib.Core.Logic.{_⊎_, inl, inr, ⊎-elim}
-use mathlib.Core.List.{List}
+use mathlib.Core.List.{List, []}
 use Prim.Native.Nat.{ℕ, zero, suc, _+_, _*_, _<_}
 use native.Mathlib.Omega.{arith}
 use borrow.Author.Tests.{eqb-true, eqb-false, ne-eqb, lt-ltb, ltb-true}
@@ -30,8 +30,10 @@ use Rattle.bucket_laws.specs.Shown.{Among, columnAt, tagAt, hasNulls, co
 use Rattle.bucket_laws.specs.Shown.{liveBefore}
 use Rattle.bucket_laws.specs.Shown.{PlainAt, ConstAt, DictAt, Counts, Answered, Stored}
 use Rattle.bucket_laws.proofs.Runs.{run-value, run-nth}
+use Rattle.bucket_laws.proofs.Width.{index-width}
 use Rattle.bucket_laws.proofs.Live.{live-none, live-next, live-same, live-less}
-use Rattle.bucket_laws.proofs.Laid.{Pieces, bucket-pieces}
+use Rattle.bucket_laws.specs.Laid.{LaidOut}
+use Rattle.bucket_laws.proofs.Laid.{order-reads, bucket-allowed, bucket-laid}
 use Rattle.bucket_laws.proofs.Pieces.{const-read, table-read, nulls-read, plain-read, dict-read}
 use Rattle.bucket_laws.proofs.Pieces.{value-const, value-plain, value-dict}
 
@@ -125,8 +127,25 @@ module _ (d : List ℕ) (cols : List Column) (n : ℕ) (s : List ℕ) (b : Judge
   abbrev Value : Field → Type 0
   Value f = valueOf s (col .ty) tag map r const table nulls cells ≡ found f
 
-  pieces : Pieces cols n s (b .tags) (b .tags + ceil8 (2 * length cols)) (b .layout) i
-  pieces = bucket-pieces cols n s b accepted i column .1
+  laid : LaidOut cols n s b
+  laid = bucket-laid cols n s b accepted
+
+  -- the column's four pieces were read where they start
+  abbrev Read : ℕ → List ℕ → List ℕ → ℕ → Type 0
+  Read part tables nulls at =
+      (next : ℕ) × (pieceOf cols n s (b .tags) (b .tags + ceil8 (2 * length cols)) part tables nulls i at ≡ found next)
+
+  const-here : Read 0 [] [] const
+  const-here = order-reads _ _ _ _ _ (laid .consts) i column
+
+  table-here : Read 1 [] [] table
+  table-here = order-reads _ _ _ _ _ (laid .tables) i column
+
+  nulls-here : Read 2 [] [] nulls
+  nulls-here = order-reads _ _ _ _ _ (laid .nulls) i column
+
+  cells-here : Read 3 (b .layout .tables) (b .layout .nulls) cells
+  cells-here = order-reads _ _ _ _ _ (laid .cells) i column
 
   -- what the question comes to
   asked : bucketField d n s r i ≡ pick isNullHere (found Null) (valueOf s (col .ty) tag map r const table nulls cells)
@@ -142,9 +161,9 @@ module _ (d : List ℕ) (cols : List Column) (n : ℕ) (s : List ℕ) (b : Judge
     nullable : col .nullable ≡ true
     unfolding tagAllowed pieceOf colOf tagOf
     nullable =
-        let allowed = bucket-pieces cols n s b accepted i column .0 in
+        let allowed = bucket-allowed cols n s b accepted i column in
         ⊎-elim (λ w. tag-allowed (col .nullable) n tag allowed (omega arith) w)
-        (λ w. nulls-read s col tag map n _ _ nulls _ (pieces .nulls .1) (w .0) r row (w .1)) why
+        (λ w. nulls-read s col tag map n _ _ nulls _ (nulls-here .1) (w .0) r row (w .1)) why
 
     is-null : NullAt cols n s b i r
     is-null = ⊎-elim (λ w. inl w) (λ w. inr (mapped-has cols n s b i (w .0), w .1)) why
@@ -199,7 +218,7 @@ module _ (d : List ℕ) (cols : List Column) (n : ℕ) (s : List ℕ) (b : Judge
     answered-plain : tag ≡ 0 → Answered d cols n s b r i
     unfolding pieceOf colOf tagOf
     answered-plain q =
-        let all = plain-read s col tag map n table nulls cells _ (pieces .cells .1) q in
+        let all = plain-read s col tag map n table nulls cells _ (cells-here .1) q in
         let x = run-value s (col .ty) (liveBefore cols n s b i n) (liveBefore cols n s b i r) cells _ less all in
         let v = value-plain s (col .ty) tag map r const table nulls cells (x .0) q (run-nth s _ _ _ _ (x .0) (x .1)) in
         answer-with (x .0) _ _ _ (x .1) v (λ p. x .1) (λ p. absurd (omega arith)) (λ p. absurd (omega arith))
@@ -207,7 +226,7 @@ module _ (d : List ℕ) (cols : List Column) (n : ℕ) (s : List ℕ) (b : Judge
     answered-const : tag ≡ 1 → Answered d cols n s b r i
     unfolding pieceOf colOf tagOf
     answered-const q =
-        let all = const-read s col tag map n _ _ const _ (pieces .const .1) q in
+        let all = const-read s col tag map n _ _ const _ (const-here .1) q in
         let x = run-value s (col .ty) 1 0 const _ (omega arith) all in
         let v = value-const s (col .ty) tag map r const table nulls cells (x .0) q (run-nth s _ _ _ _ (x .0) (x .1)) in
         answer-with (x .0) _ _ _ (x .1) v (λ p. absurd (omega arith)) (λ p. x .1) (λ p. absurd (omega arith))
@@ -215,8 +234,8 @@ module _ (d : List ℕ) (cols : List Column) (n : ℕ) (s : List ℕ) (b : Judge
     answered-dict : tag ≡ 2 → Answered d cols n s b r i
     unfolding pieceOf colOf tagOf
     answered-dict q =
-        let t = table-read s col tag map n _ _ table _ (pieces .table .1) q in
-        let k = dict-read s col tag map n table nulls cells _ t (pieces .cells .1) q in
+        let t = table-read s col tag map n _ _ table _ (table-here .1) q in
+        let k = dict-read s col tag map n table nulls cells _ t (cells-here .1) q in
         let below = k .below (liveBefore cols n s b i r) less in
         let x = run-value s (col .ty) (t .entries) _ (t .first) (t .end) below (t .all) in
         let nth = run-nth s _ _ _ _ (x .0) (x .1) in
@@ -229,6 +248,7 @@ module _ (d : List ℕ) (cols : List Column) (n : ℕ) (s : List ℕ) (b : Judge
           count = t .count;
           least = t .least;
           most = t .most;
+          width = index-width (t .entries) (t .least) (t .most);
           below = less;
           room = k .room;
           entry = x .1;

@@ -1,14 +1,16 @@
--- An accepted bucket, taken apart: in each of its four parts the piece of each column was read where the layout says
--- that it starts.
+-- An accepted bucket, taken apart: its four parts follow each other, in each the pieces follow each other in column
+-- order, and nothing follows.
 -- Assumes nothing.
-use mathlib.Core.Path.{_≡_, refl, ap, subst}
-use mathlib.Core.Bool.{true}
+use mathlib.Core.Path.{_≡_, refl, subst, _∙_}
+use mathlib.Core.Bool.{Bool, true, false}
 use mathlib.Core.List.{List, [], _∷_, _++_}
 use Prim.Native.Nat.{ℕ, zero, suc, _+_, _*_, _<_}
 use native.Mathlib.Nat.{not-suc-le-zero}
 use native.Mathlib.Omega.{arith}
-use lib.ListN.{length, getD, length-append}
-use lib.Dec.{leb}
+use borrow.Author.Tests.{eqb-true, eqb-false}
+use lib.ListN.{length, getD, length-append, List·getD-append}
+use lib.Seq.{getD-at}
+use lib.Dec.{leb, eqb}
 use Rattle.common.specs.Outcome.{both, Outcome, found}
 use Rattle.common.specs.Lists.{from, every}
 use Rattle.common.specs.Bytes.{ceil8, lowSpareZero}
@@ -16,99 +18,120 @@ use Rattle.common.proofs.Lists.{every-each}
 use Rattle.common.proofs.Outcomes.{same-found, then-found}
 use Rattle.row_spec.specs.declared.Column.{Column}
 use Rattle.row_laws.proofs.Read.{need-found}
-use Rattle.row_laws.proofs.Starts.{kept-each}
 use Rattle.bucket_spec.specs.Bucket.{Part, along, Layout, pieceOf, parts, tagAllowed, body, tagsAt, Judged, bucket}
+use Rattle.bucket_laws.specs.Laid.{InOrder, InParts, LaidOut}
 
 -- ---- one part
 module _ (step : ℕ → ℕ → Outcome ℕ) where
-  -- the piece of column i was read from at on
-  abbrev pub Reads : ℕ → ℕ → Type 0
-  Reads i at = (next : ℕ) × (step i at ≡ found next)
+  -- what was laid so far, and where the next piece starts
+  one-step : (i first at next : ℕ) (done : List ℕ) → InOrder step i first done at → step i at ≡ found next
+      → InOrder step (suc i) first (done ++ (at ∷ [])) next
+  one-step i first at next done h e =
+      record { many = len; first = before 0 (omega arith) ∙ h .first; each = λ j l. by-test j l (eqb j i) refl }
+    where
+      len : length (done ++ (at ∷ [])) ≡ suc i
+      len = rw length-append (omega (arith, h .many))
 
-  record Steps (i : ℕ) (starts : List ℕ) : Type 0 where
-    many : length starts ≡ i
-    each : (j : ℕ) → j < i → Reads j (getD starts j 0)
+      before : (k : ℕ) → k < suc i → getD ((done ++ (at ∷ [])) ++ (next ∷ [])) k 0 ≡ getD (done ++ (at ∷ [])) k 0
+      before k l = List·getD-append (done ++ (at ∷ [])) (next ∷ []) 0 k (omega (arith, len))
 
-  one-step : (i at next : ℕ) (done : List ℕ) → Steps i done → step i at ≡ found next → Steps (suc i) (done ++ (at ∷ []))
-  one-step i at next done h e =
-      record {
-        many = rw length-append (omega (arith, h .many));
-        each = kept-each Reads 0 done at i (h .many) (h .each) (next, e);
-      }
+      here : getD (done ++ (at ∷ [])) i 0 ≡ at
+      here = getD-at done at [] 0 i (h .many)
 
-  steps : (k i at : ℕ) (done : List ℕ) (x : Part) → Steps i done → along step i k at done ≡ found x
-      → Steps (i + k) (x .starts)
+      last : getD ((done ++ (at ∷ [])) ++ (next ∷ [])) (suc i) 0 ≡ next
+      last = getD-at (done ++ (at ∷ [])) next [] 0 (suc i) len
+
+      by-test : (j : ℕ) → j < suc i → (t : Bool) → eqb j i ≡ t
+          → step j (getD ((done ++ (at ∷ [])) ++ (next ∷ [])) j 0)
+          ≡ found (getD ((done ++ (at ∷ [])) ++ (next ∷ [])) (suc j) 0)
+      by-test j l true q = rw (eqb-true j i q, before i (omega arith), here, last) e
+      by-test j l false q =
+          let less : j < i = let d = eqb-false j i q in omega arith in
+          rw (before j (omega arith), before (suc j) (omega arith)) (h .each j less)
+
+  steps : (k i first at : ℕ) (done : List ℕ) (x : Part) → InOrder step i first done at
+      → along step i k at done ≡ found x
+      → InOrder step (i + k) first (x .starts) (x .next)
   unfolding along
-  steps zero i at done x h e =
+  steps zero i first at done x h e =
       let p : record { starts = done; next = at } ≡ x = same-found e in
-      let q : done ≡ x .starts = ap (λ (y : Part). y .starts) p in
       let a : i ≡ i + 0 = omega arith in
-      rw (q, a) at h
-  steps (suc k) i at done x h e =
+      subst (λ (y : Part). InOrder step (i + 0) first (y .starts) (y .next)) p (rw a at h)
+  steps (suc k) i first at done x h e =
       let y = then-found (step i at) (λ next. along step (suc i) k next (done ++ (at ∷ []))) x e in
-      let l = steps k (suc i) (y .0) (done ++ (at ∷ [])) x (one-step i at (y .0) done h (y .1 .0)) (y .1 .1) in
+      let g = one-step i first at (y .0) done h (y .1 .0) in
+      let l = steps k (suc i) first (y .0) (done ++ (at ∷ [])) x g (y .1 .1) in
       let a : suc i + k ≡ i + suc k = omega arith in
       rw a at l
 
-  pub along-each : (k at : ℕ) (x : Part) → along step 0 k at [] ≡ found x → (i : ℕ) → i < k
-      → Reads i (getD (x .starts) i 0)
-  along-each k at x e i h =
-      steps k 0 at [] x (record { many = refl; each = λ j l. absurd (not-suc-le-zero l) }) e .each i (omega arith)
+  none : (at : ℕ) → InOrder step 0 at [] at
+  none at = record { many = refl; first = refl; each = λ j l. absurd (not-suc-le-zero l) }
+
+  pub along-order : (k at : ℕ) (x : Part) → along step 0 k at [] ≡ found x → InOrder step k at (x .starts) (x .next)
+  along-order k at x e =
+      let z : 0 + k ≡ k = omega arith in
+      rw z at (steps k 0 at at [] x (none at) e)
+
+  -- so each piece was read where it starts
+  pub order-reads : (k at : ℕ) (starts : List ℕ) (end : ℕ) → InOrder step k at starts end → (i : ℕ) → i < k
+      → (next : ℕ) × (step i (getD starts i 0) ≡ found next)
+  order-reads k at starts end h i l =
+      let e = List·getD-append starts (end ∷ []) 0 i (omega (arith, h .many)) in
+      (getD (starts ++ (end ∷ [])) (suc i) 0, rw (← e) (h .each i l))
 
 -- ---- the whole bucket
 module _ (cols : List Column) (n : ℕ) (s : List ℕ) where
   module _ (tags has : ℕ) where
-    pub record Pieces (l : Layout) (i : ℕ) : Type 0 where
-      pub const : Reads (pieceOf cols n s tags has 0 [] []) i (getD (l .consts) i 0)
-      pub table : Reads (pieceOf cols n s tags has 1 [] []) i (getD (l .tables) i 0)
-      pub nulls : Reads (pieceOf cols n s tags has 2 [] []) i (getD (l .nulls) i 0)
-      pub cells : Reads (pieceOf cols n s tags has 3 (l .tables) (l .nulls)) i (getD (l .cells) i 0)
-
-    -- a part's pieces
+    -- a part that was read, and its pieces in order
     abbrev PartIs : ℕ → List ℕ → List ℕ → ℕ → Part → Type 0
     PartIs part tables nulls at x = along (pieceOf cols n s tags has part tables nulls) 0 (length cols) at [] ≡ found x
 
-    piece-at : (part : ℕ) (tables nulls : List ℕ) (at : ℕ) (x : Part) → PartIs part tables nulls at x → (i : ℕ)
-        → i < length cols
-        → Reads (pieceOf cols n s tags has part tables nulls) i (getD (x .starts) i 0)
-    piece-at part tables nulls at x e i h =
-        along-each (pieceOf cols n s tags has part tables nulls) (length cols) at x e i h
+    part-order : (part : ℕ) (tables nulls : List ℕ) (at : ℕ) (x : Part) → PartIs part tables nulls at x
+        → InOrder (pieceOf cols n s tags has part tables nulls) (length cols) at (x .starts) (x .next)
+    part-order part tables nulls at x e = along-order (pieceOf cols n s tags has part tables nulls) (length cols) at x e
+
+    abbrev layoutOf : Part → Part → Part → Part → Layout
+    layoutOf c t u d = record { consts = c .starts; tables = t .starts; nulls = u .starts; cells = d .starts }
 
     four-parts : (at : ℕ) (c t u d : Part) → PartIs 0 [] [] at c → PartIs 1 [] [] (c .next) t
-        → PartIs 2 [] [] (t .next) u
-        → PartIs 3 (t .starts) (u .starts) (u .next) d → (i : ℕ) → i < length cols
-        → Pieces (record { consts = c .starts; tables = t .starts; nulls = u .starts; cells = d .starts }) i
-    four-parts at c t u d ec et eu ed i h =
+        → PartIs 2 [] [] (t .next) u → PartIs 3 (t .starts) (u .starts) (u .next) d → eqb (d .next) (length s) ≡ true
+        → InParts cols n s tags has at (layoutOf c t u d)
+    four-parts at c t u d ec et eu ed last =
+        let end = eqb-true (d .next) (length s) last in
         record {
-          const = piece-at 0 [] [] at c ec i h;
-          table = piece-at 1 [] [] (c .next) t et i h;
-          nulls = piece-at 2 [] [] (t .next) u eu i h;
-          cells = piece-at 3 (t .starts) (u .starts) (u .next) d ed i h;
+          toTables = c .next;
+          toNulls = t .next;
+          toCells = u .next;
+          consts = part-order 0 [] [] at c ec;
+          tables = part-order 1 [] [] (c .next) t et;
+          nulls = part-order 2 [] [] (t .next) u eu;
+          cells = rw end at (part-order 3 (t .starts) (u .starts) (u .next) d ed);
         }
 
-    parts-pieces : (at : ℕ) (l : Layout) → parts cols n s tags has at ≡ found l → (i : ℕ) → i < length cols → Pieces l i
+    parts-laid : (at : ℕ) (l : Layout) → parts cols n s tags has at ≡ found l → InParts cols n s tags has at l
     unfolding parts
-    parts-pieces at l e i h =
+    parts-laid at l e =
         let c = then-found _ _ l e in
         let t = then-found _ _ l (c .1 .1) in
         let u = then-found _ _ l (t .1 .1) in
         let d = then-found _ _ l (u .1 .1) in
-        let p = four-parts at (c .0) (t .0) (u .0) (d .0) (c .1 .0) (t .1 .0) (u .1 .0) (d .1 .0) i h in
-        rw (same-found (need-found _ 36 _ l (d .1 .1) .1)) at p
+        let z = need-found _ 36 _ l (d .1 .1) in
+        let p = four-parts at (c .0) (t .0) (u .0) (d .0) (c .1 .0) (t .1 .0) (u .1 .0) (d .1 .0) (z .0) in
+        rw (same-found (z .1)) at p
 
-    -- the pieces of column i, and its tag is allowed
-    body-pieces : (l : Layout) → body cols n s tags has ≡ found l → (i : ℕ) → i < length cols
-        → (tagAllowed cols n s tags has i ≡ true) × Pieces l i
+    -- the parts in order, and each column's tag is allowed
+    body-laid : (l : Layout) → body cols n s tags has ≡ found l
+        → ((i : ℕ) → i < length cols → tagAllowed cols n s tags has i ≡ true)
+        × InParts cols n s tags has (has + ceil8 (length cols)) l
     unfolding body
-    body-pieces l e i h =
+    body-laid l e =
         let a = need-found (leb has (length s)) 31 _ l e .1 in
         let b = need-found (lowSpareZero s tags (2 * length cols)) 34 _ l a .1 in
         let c = need-found (every (tagAllowed cols n s tags has) (from 0 (length cols))) 35 _ l b in
         let d = need-found (leb (has + ceil8 (length cols)) (length s)) 31 _ l (c .1) .1 in
-        let f = need-found (lowSpareZero s has (length cols)) 34 _ l d .1 in (
-          every-each (tagAllowed cols n s tags has) (length cols) i (c .0) h,
-          parts-pieces (has + ceil8 (length cols)) l f i h,
-        )
+        let f = need-found (lowSpareZero s has (length cols)) 34 _ l d .1 in
+        let allowed = every-each (tagAllowed cols n s tags has) (length cols) in
+        (λ i h. allowed i (c .0) h, parts-laid (has + ceil8 (length cols)) l f)
 
   bucket-body : (b : Judged) → bucket cols n s ≡ found b
       → body cols n s (b .tags) (b .tags + ceil8 (2 * length cols)) ≡ found (b .layout)
@@ -120,7 +143,10 @@ module _ (cols : List Column) (n : ℕ) (s : List ℕ) where
       subst (λ (x : Judged). body cols n s (x .tags) (x .tags + ceil8 (2 * length cols)) ≡ found (x .layout))
       (same-found (l .1 .1)) (l .1 .0)
 
-  pub bucket-pieces : (b : Judged) → bucket cols n s ≡ found b → (i : ℕ) → i < length cols
-      → (tagAllowed cols n s (b .tags) (b .tags + ceil8 (2 * length cols)) i ≡ true)
-      × Pieces (b .tags) (b .tags + ceil8 (2 * length cols)) (b .layout) i
-  bucket-pieces b e i h = body-pieces (b .tags) (b .tags + ceil8 (2 * length cols)) (b .layout) (bucket-body b e) i h
+  pub bucket-allowed : (b : Judged) → bucket cols n s ≡ found b → (i : ℕ) → i < length cols
+      → tagAllowed cols n s (b .tags) (b .tags + ceil8 (2 * length cols)) i ≡ true
+  bucket-allowed b e = body-laid (b .tags) (b .tags + ceil8 (2 * length cols)) (b .layout) (bucket-body b e) .0
+
+  -- An accepted bucket's parts and pieces follow each other to its end.
+  pub bucket-laid : (b : Judged) → bucket cols n s ≡ found b → LaidOut cols n s b
+  bucket-laid b e = body-laid (b .tags) (b .tags + ceil8 (2 * length cols)) (b .layout) (bucket-body b e) .1

@@ -1,5 +1,6 @@
 pub mod Status
 pub mod Runs
+pub mod Width
 pub mod Live
 pub mod Laid
 pub mod Pieces

@@ -1,5 +1,5 @@
 -- What an accepted bucket shows at a row and a column that it has.
-use Prim.Native.Nat.{ℕ, suc, _+_, _*_, _≤_, _<_}
+use Prim.Native.Nat.{ℕ, suc, _+_, _*_, _^_, _≤_, _<_}
 use mathlib.Core.Path.{_≡_}
 use mathlib.Core.Logic.{_⊎_}
 use mathlib.Core.Bool.{true}
@@ -30,6 +30,11 @@ pub record Among (s : List ℕ) (t : ColumnType) (at m j : ℕ) (f : Field) : Ty
   pub next : ℕ
   pub reads : valueAt true s place t ≡ Read f next
 
+-- "ceil(log2(e))": the least w for which 2^w is not below e
+pub record CeilLog (e w : ℕ) : Type 0 where
+  pub enough : e ≤ 2 ^ w
+  pub least : (v : ℕ) → e ≤ 2 ^ v → w ≤ v
+
 -- Of m indexes at cells into the table at table, index j names the entry f: "number of entries 2 to 255, then entries";
 -- "one index for each, low bits first, .. ceil(log2(entries)) bits wide".
 pub record Entry (s : List ℕ) (t : ColumnType) (table cells m j : ℕ) (f : Field) : Type 0 where
@@ -38,6 +43,7 @@ pub record Entry (s : List ℕ) (t : ColumnType) (table cells m j : ℕ) (f : Fi
   pub count : varintAt s table ≡ Number entries first
   pub least : 2 ≤ entries
   pub most : entries ≤ 255
+  pub width : CeilLog entries (indexWidth entries)
   pub below : j < m
   pub room : cells + ceil8 (m * indexWidth entries) ≤ length s
   pub entry : Among s t first entries (lowBits s cells (j * indexWidth entries) (indexWidth entries)) f
