@@ -14,7 +14,7 @@ use lib.Dec.{ltb, eqb}
 use Rattle.common.specs.Outcome.{pick, both, either, found, need}
 use Rattle.common.specs.Bytes.{ceil8, lowBit}
 use Rattle.common.proofs.Lists.{both-left, both-right}
-use Rattle.common.proofs.Outcomes.{same-found, then-found}
+use Rattle.common.proofs.Outcomes.{clash, same-found, then-found}
 use Rattle.common.proofs.LowBits.{bits-small}
 use Rattle.row_spec.specs.Schema.{schema}
 use Rattle.row_spec.specs.Answer.{inside}
@@ -45,7 +45,7 @@ null-cases tag m bit e = by-tag (eqb tag 3) refl e
   where
     by-map : (t : Bool) → both t (eqb bit 1) ≡ true → (t ≡ true) × (bit ≡ 1)
     by-map true q = (refl, eqb-true bit 1 q)
-    by-map false q = absurd (let z : _≡_ {A = ℕ} 0 1 = cc in omega arith)
+    by-map false q = clash (cc)
 
     by-tag : (t : Bool) → eqb tag 3 ≡ t → either t (both m (eqb bit 1)) ≡ true → (tag ≡ 3) ⊎ ((m ≡ true) × (bit ≡ 1))
     by-tag true h q = inl (eqb-true tag 3 h)
@@ -56,15 +56,15 @@ null-never : (tag has bit : ℕ) → either (eqb tag 3) (both (both (eqb has 1) 
 null-never tag has bit e w = by-tag (eqb tag 3) refl e
   where
     by-tag : (t : Bool) → eqb tag 3 ≡ t → either t (both (both (eqb has 1) (not t)) (eqb bit 1)) ≡ false → ⊥
-    by-tag true h q = let z : _≡_ {A = ℕ} 0 1 = cc in omega arith
+    by-tag true h q = clash (cc)
     by-tag false h q =
-        ⊎-elim (λ v. eqb-false tag 3 h v) (λ v. let z : _≡_ {A = ℕ} 0 1 = cc (rw (v .0, v .1) at q) in omega arith) w
+        ⊎-elim (λ v. eqb-false tag 3 h v) (λ v. clash (cc (rw (v .0, v .1) at q))) w
 
 tag-allowed : (nullable : Bool) (n tag : ℕ) → either nullable (either (eqb n 0) (not (eqb tag 3))) ≡ true → 0 < n
     → tag ≡ 3 → nullable ≡ true
 tag-allowed true n tag e h q = refl
 tag-allowed false n tag e h q =
-    absurd (let z : _≡_ {A = ℕ} 0 1 = cc (rw (ne-eqb n 0 (λ p. omega arith), q) at e) in omega arith)
+    clash (cc (rw (ne-eqb n 0 (λ p. omega arith), q) at e))
 
 one-of-three : (t : ℕ) → t < 4 → (t ≡ 3 → ⊥) → (t ≡ 0) ⊎ ((t ≡ 1) ⊎ (t ≡ 2))
 one-of-three zero h g = inl refl

@@ -4,7 +4,6 @@ use mathlib.Core.Path.{_≡_, refl}
 use mathlib.Core.Bool.{Bool, true, false}
 use mathlib.Core.List.{List}
 use Prim.Native.Nat.{ℕ, _+_, _*_, _≤_, _<_}
-use native.Mathlib.Omega.{arith}
 use borrow.Author.Tests.{leb-true, ltb-true, eqb-true}
 use lib.ListN.{length}
 use lib.Dec.{leb, ltb, eqb}
@@ -12,6 +11,7 @@ use Rattle.common.specs.Outcome.{both, either, refused, found, need}
 use Rattle.common.specs.Lists.{from, every}
 use Rattle.common.specs.Bytes.{ceil8, lowBit, lowBits, lowCount}
 use Rattle.common.proofs.Lists.{both-left, both-right, every-each}
+use Rattle.common.proofs.Outcomes.{clash}
 use Rattle.row_spec.specs.Varint.{varintAt, onVarint}
 use Rattle.row_spec.specs.declared.Varint.{Varint}
 use Rattle.row_spec.specs.declared.Varint.the-variants as varint
@@ -22,9 +22,6 @@ use Rattle.row_laws.proofs.Read.{need-found}
 use Rattle.bucket_spec.specs.Piece.{values, nth, indexWidth, tableOf, constPiece, tablePiece, nullsPiece}
 use Rattle.bucket_spec.specs.Piece.{live, indexes, dataPiece, piece, entryOf, valueOf}
 use Rattle.bucket_laws.proofs.Live.{count-none}
-
-clash : {A : Type 0} → _≡_ {A = ℕ} 0 1 → A
-clash z = absurd (let k : _≡_ {A = ℕ} 0 1 = z in omega arith)
 
 -- "number of entries 2 to 255, then entries"
 pub record Table (s : List ℕ) (t : ColumnType) (table : ℕ) : Type 0 where

@@ -5,8 +5,8 @@ use mathlib.Core.Bool.{true}
 use mathlib.Core.List.{List}
 use Prim.Native.Nat.{ℕ, zero, suc, _<_}
 use native.Mathlib.Nat.{not-suc-le-zero, le-of-suc-le-suc}
-use native.Mathlib.Omega.{arith}
 use Rattle.common.specs.Outcome.{refused, found, then}
+use Rattle.common.proofs.Outcomes.{clash}
 use Rattle.row_spec.specs.Value.{valueAt, onValue}
 use Rattle.row_spec.specs.declared.ColumnType.{ColumnType}
 use Rattle.row_spec.specs.declared.Field.{Field}
@@ -14,9 +14,6 @@ use Rattle.row_spec.specs.declared.Value.{Value}
 use Rattle.row_spec.specs.declared.Value.the-variants.{Read, CutShort, Bad}
 use Rattle.bucket_spec.specs.Piece.{values, hereOf, nth}
 use Rattle.bucket_laws.specs.Shown.{Among}
-
-clash : {A : Type 0} → _≡_ {A = ℕ} 0 1 → A
-clash z = absurd (let k : _≡_ {A = ℕ} 0 1 = z in omega arith)
 
 module _ (s : List ℕ) (t : ColumnType) where
   -- one value, then the rest

@@ -6,17 +6,21 @@ use Prim.Native.Nat.{ℕ, suc}
 use native.Mathlib.Omega.{arith}
 use Rattle.common.specs.Outcome.{pick, Outcome, refused, found, then, need, Numbered}
 
+-- different constructors are not equal
+pub clash : {A : Type 0} → _≡_ {A = ℕ} 0 1 → A
+clash z = absurd (let k : _≡_ {A = ℕ} 0 1 = z in omega arith)
+
 pub same-found : {A : Type 0} {a b : A} → found a ≡ found b → a ≡ b
 same-found e = cc
 
 pub then-found : {A B : Type 0} (o : Outcome A) (f : A → Outcome B) (b : B) → then o f ≡ found b
     → (a : A) × ((o ≡ found a) × (f a ≡ found b))
-then-found (refused n) f b e = absurd (let z : _≡_ {A = ℕ} 0 1 = cc in omega arith)
+then-found (refused n) f b e = clash (cc)
 then-found (found a) f b e = (a, (refl, e))
 
 -- ---- no refusal is 0
 pub found-numbered : {A : Type 0} (a : A) → Numbered (found a)
-found-numbered a e = let z : _≡_ {A = ℕ} 0 1 = cc in omega arith
+found-numbered a e = clash (cc)
 
 pub refused-numbered : {A : Type 0} (n : ℕ) → Numbered {A = A} (refused (suc n))
 refused-numbered n e = let z : suc n ≡ 0 = cc in omega arith

@@ -20,19 +20,16 @@ use Rattle.row_spec.specs.declared.Field.{Field}
 use Rattle.row_spec.specs.declared.Field.the-variants.{Null}
 use Rattle.row_spec.specs.declared.Value.{Value}
 use Rattle.row_spec.specs.declared.Value.the-variants.{Read, CutShort, Bad}
-use Rattle.common.proofs.Outcomes.{same-found, then-found}
+use Rattle.common.proofs.Outcomes.{clash, same-found, then-found}
 use Rattle.row_laws.specs.Shown.{endOf, fieldStart, rowStart}
 use Rattle.row_laws.proofs.Read.{need-found}
 use Rattle.row_laws.proofs.Rows.{kept-next, fields-cut, fields-bad, fields-more, fields-end}
-
-clash : {A : Type 0} → _≡_ {A = ℕ} 0 1 → A
-clash z = absurd (let k : _≡_ {A = ℕ} 0 1 = z in omega arith)
 
 before : (a b : ℕ) → a < suc b → (a ≡ b → ⊥) → a < b
 before a b p q = omega arith
 
 -- what holds of each element of a list, and of one more at its end
-pub kept-each : {A : Type 0} (P : ℕ → A → Type 0) (d : A) (l : List A) (x : A) (i : ℕ) → length l ≡ i
+kept-each : {A : Type 0} (P : ℕ → A → Type 0) (d : A) (l : List A) (x : A) (i : ℕ) → length l ≡ i
     → ((m : ℕ) → m < i → P m (getD l m d)) → P i x
     → (m : ℕ) → m < suc i → P m (getD (l ++ (x ∷ [])) m d)
 kept-each P d l x i len h g m less = rw (kept-next l x m d) (by-test (eqb (length l) m) refl)

@@ -5,7 +5,6 @@ use mathlib.Core.Bool.{Bool, true, false}
 use mathlib.Core.Logic.{_⊎_, inl, inr}
 use mathlib.Core.List.{List}
 use Prim.Native.Nat.{ℕ, _+_}
-use native.Mathlib.Omega.{arith}
 use borrow.Author.Tests.{eqb-true, eqb-false}
 use lib.ListN.{length, getD}
 use lib.Dec.{leb, eqb}
@@ -14,6 +13,7 @@ use lib.Ieee as ieee
 use lib.Ieee.{Format, nanBits, ofBits, binary32, binary64}
 use Rattle.common.specs.Outcome.{pick}
 use Rattle.common.specs.Bytes.{lowBit}
+use Rattle.common.proofs.Outcomes.{clash}
 use Rattle.row_spec.specs.Varint.{varintAt}
 use Rattle.row_spec.specs.Value.{pattern, storageOf, wordAt, room, wholeAt, booleanAt, sizedOf, nanosOf, countAt}
 use Rattle.row_spec.specs.Value.{storedAt, valueAt}
@@ -29,9 +29,6 @@ use Rattle.row_spec.specs.declared.Storage.{Storage}
 use Rattle.row_spec.specs.declared.Storage.the-variants as storage
 use Rattle.row_spec.specs.declared.Value.{Value}
 use Rattle.row_spec.specs.declared.Value.the-variants.{Read, CutShort, Bad}
-
-clash : {A : Type 0} → _≡_ {A = ℕ} 0 1 → A
-clash z = absurd (let k : _≡_ {A = ℕ} 0 1 = z in omega arith)
 
 -- a test that holds of whatever can be read from the bytes s
 record Passes (s : List ℕ) (test : Field → Bool) : Type 0 where
@@ -133,7 +130,7 @@ module _ (s : List ℕ) (f : Field) (next : ℕ) (big : Bool) (at : ℕ) (t : Co
   pub value-some : valueAt big s at t ≡ Read f next → f ≡ field.Null → ⊥
   unfolding valueAt
   value-some e q =
-      let z : some f ≡ true = stored-passes s some f next passes big at (storageOf big t) e in never (rw q at z)
+      let z : some f ≡ true = stored-passes s some f next passes big at (storageOf big t) e in clash (cc (rw q at z))
     where
       some : Field → Bool
       some field.Null = false
@@ -158,9 +155,6 @@ module _ (s : List ℕ) (f : Field) (next : ℕ) (big : Bool) (at : ℕ) (t : Co
             time = λ z n. refl;
             place = λ a l h. refl;
           }
-
-      never : false ≡ true → ⊥
-      never h = let z : _≡_ {A = ℕ} 0 1 = cc in omega arith
 
 -- a field of a row that was read: null by its bit, in a column that may be null, or the value of its column's type
 abbrev pub NullField : List ℕ → ℕ → ℕ → Column → Field → Type 0
