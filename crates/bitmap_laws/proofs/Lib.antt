@@ -17,3 +17,4 @@ pub mod Length
 pub mod Plans
 pub mod Uses
 pub mod Output
+pub mod Status

@@ -1,2 +1,3 @@
 mod Pages
 mod Writes
+pub mod Worked

@@ -1,2 +1,3 @@
 mod Bools
 mod Answers
+pub mod Worked

@@ -43,6 +43,15 @@ every-all f k (suc n) h =
     let a : f k ≡ true = rw (add-zero k) at (h 0 (omega arith)) in
     rw a (every-all f (suc k) n (λ i l. rw (suc-add k i, ← add-suc k i) (h (suc i) (omega arith))))
 
+pub every-each : (f : ℕ → Bool) (n i : ℕ) → every f (from 0 n) ≡ true → i < n → f i ≡ true
+every-each f n i e h = by-test (f i) refl
+  where
+    by-test : (t : Bool) → f i ≡ t → f i ≡ true
+    by-test true q = q
+    by-test false q =
+        let none = every-hit f 0 n i h (rw (zero-add i) q) in
+        absurd (let z : _≡_ {A = ℕ} 0 1 = cc in omega arith)
+
 -- ---- tables
 pub table-snoc : (f : ℕ → ℕ) (k n : ℕ) → table f k (suc n) ≡ table f k n ++ (f (k + n) ∷ [])
 unfolding table

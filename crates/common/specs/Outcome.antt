@@ -36,6 +36,10 @@ unfoldable pub need : {A : Type 0} → Bool → ℕ → Outcome A → Outcome A
 need true n r = r
 need false n r = refused n
 
+-- No refusal is 0: a call that returns the refusal's number, or 0, says by 0 that it did its work.
+abbrev pub Numbered : {A : Type 0} → Outcome A → Type 0
+Numbered o = o ≡ refused 0 → ⊥
+
 -- what a call returns: the refusal's number, or 0
 abbrev pub status : {A : Type 0} → Outcome A → ℕ
 status (refused n) = n

@@ -5,4 +5,7 @@ pub mod Bytes
 pub mod TwosComplement
 pub mod Patterns
 pub mod Read
+pub mod Values
+pub mod Starts
 pub mod Accepted
+pub mod Status

@@ -1,5 +1,5 @@
 -- The field is the definition's, and a place of an accepted bucket lies within it. Assumes nothing.
-use Rattle.buckets.proofs.Within.{place-within}
+use Rattle.bucket_laws.proofs.Within.{place-within}
 use borrow.Author.Needs.{needs}
 use Rattle.buckets.proofs.part.Statement.{statement}
 use Rattle.buckets.proofs.part.Tie as tie

@@ -1,0 +1,1 @@
+// Laws of buckets, over the definitions alone. Inner: no code, no entry point.
