@@ -17,7 +17,7 @@ ghost use Rattle.chunk_parts.specs.Kept.{offsets};
 ghost use Rattle.chunk_write.specs.Exceptions.{exceptionsOf};
 
 // Three bytes.
-fn put3(out: &mut [u8], at: usize, x: u8, y: u8, z: u8) -> usize
+pub fn put3(out: &mut [u8], at: usize, x: u8, y: u8, z: u8) -> usize
     requires { ⌜ at + 3 ≤ length (now out) ⌝ }
     ensures { λ r. ⌜ (r ≡ 3) × (now (out .exit) ≡ written (now (out .entry)) at (x ∷ y ∷ z ∷ [])) ⌝ }
 {
