@@ -108,12 +108,7 @@ fn print_pages(s: &[u8], place: u32, finished: bool, room: usize) {
 
 // A line that starts with # is printed; any other is `place P, mark M, room N, bitmap` and hexadecimal digits.
 fn show_line(line: &[u8]) {
-    if line.len() == 0 {
-        return;
-    }
-    if line[0] == b'#' {
-        vector_lines::print(line);
-        vector_lines::print(b"\n");
+    if vector_lines::comment(line) {
         return;
     }
     let mut bytes = [0u8; 1024];

@@ -61,6 +61,27 @@ pub fn after<'a>(line: &'a [u8], c: u8) -> &'a [u8] {
     &line[n..]
 }
 
+// Whether the text starts with c.
+pub fn starts(text: &[u8], c: u8) -> bool {
+    if text.len() == 0 {
+        return false;
+    }
+    text[0] == c
+}
+
+// Whether the line is empty or a comment, which starts with # and is printed.
+pub fn comment(line: &[u8]) -> bool {
+    if line.len() == 0 {
+        return true;
+    }
+    if line[0] == b'#' {
+        print(line);
+        print(b"\n");
+        return true;
+    }
+    false
+}
+
 // The value of a hexadecimal digit.
 fn digit(c: u8) -> u8
     ensures { λ r. ⌜ r < 16 ⌝ }
