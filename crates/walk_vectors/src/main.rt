@@ -1,8 +1,12 @@
-// Walks the rows of blocks field by field through row_walk, with the walker held in a local and lent by `&mut`.
+// Walks rows field by field through row_walk, with the walker held in a local and lent by `&mut`: a line of standard input for each
+// row, in hexadecimal digits, with the whole numbers wanted. The output has a line for the null bitmap and one for each field, with
+// the place after it, and was worked out from 01 by hand.
 ghost use mathlib.Core.Path.{_≡_};
 ghost use Rattle.row_spec.specs.Answer.{countOutcome, fieldOutcome};
 ghost use Rattle.row_walk.specs.Walk.{headOf, nextOf, answerOf, placeOf};
+use libc::STDIN_FILENO;
 use row_spec::Column;
+use row_spec::ColumnAnswer;
 use row_spec::CountAnswer;
 use row_spec::FieldAnswer;
 use row_walk::RowWalker;
@@ -37,7 +41,116 @@ fn walk_field(row: &[u8], at: usize, i: usize, c: Column) -> FieldTurn
     FieldTurn { at: w.at, answer }
 }
 
+// The place after a field, and whether the walk ends.
+struct Stand {
+    at: usize,
+    ends: bool,
+}
+
+fn print_place(at: usize) {
+    vector_lines::print_after(b", place ", at as u64);
+    vector_lines::print(b"\n");
+}
+
+// Field i, and its line.
+fn print_field(schema: &[u8], row: &[u8], at: usize, i: u32, whole: &[u8]) -> Stand {
+    match schema::column(schema, i) {
+        ColumnAnswer::Refused(n) => {
+            vector_fields::print_refused(n);
+            Stand { at, ends: true }
+        }
+        ColumnAnswer::Column(c) => {
+            let t = walk_field(row, at, i as usize, c);
+            let answer = t.answer;
+            vector_lines::print_after(b"field ", i as u64);
+            let refused = vector_fields::print_answer(answer, whole);
+            print_place(t.at);
+            Stand {
+                at: t.at,
+                ends: refused,
+            }
+        }
+    }
+}
+
+// The fields of so many columns, until one is refused.
+fn print_fields(schema: &[u8], row: &[u8], columns: u32, from: usize, words: &[u8]) {
+    let mut at = Stand {
+        at: from,
+        ends: false,
+    };
+    let mut i: u32 = 0;
+    while i < columns {
+        at = print_field(
+            schema,
+            row,
+            at.at,
+            i,
+            vector_lines::word(words, (i as usize) + 5),
+        );
+        if at.ends {
+            return;
+        }
+        i += 1;
+    }
+}
+
+// The null bitmap and the fields of a row.
+fn print_row(schema: &[u8], row: &[u8], columns: u32, words: &[u8]) {
+    if 64 < columns {
+        return;
+    }
+    let t = walk_head(row, columns as u16);
+    let answer = t.answer;
+    match answer {
+        CountAnswer::Refused(n) => {
+            vector_fields::print_refused(n);
+            print_place(t.at);
+        }
+        CountAnswer::Count(n) => {
+            vector_lines::print_after(b": columns ", n as u64);
+            print_place(t.at);
+            print_fields(schema, row, columns, t.at, words);
+        }
+    }
+}
+
+// `schema S, row R, whole` and the number of each column.
+fn question(words: &[u8], schema: &[u8], row: &[u8]) {
+    match schema::check(schema) {
+        CountAnswer::Refused(n) => {
+            vector_fields::print_refused(n);
+            vector_lines::print(b"\n");
+        }
+        CountAnswer::Count(n) => print_row(schema, row, n, words),
+    }
+}
+
+// A line that starts with # is printed; any other is a name, a colon and a question.
+fn show_line(line: &[u8]) {
+    if vector_lines::comment(line) {
+        return;
+    }
+    let words = vector_lines::after(line, b':');
+    vector_lines::print(vector_lines::before(line, b':'));
+    let mut schema = [0u8; 256];
+    let n = vector_lines::decode(vector_lines::word(words, 1), &mut schema);
+    let mut row = [0u8; 256];
+    let m = vector_lines::decode(vector_lines::word(words, 3), &mut row);
+    question(words, &schema[..n], &row[..m]);
+}
+
+fn show_lines(text: &[u8]) {
+    let mut at: usize = 0;
+    while at < text.len() {
+        let end = vector_lines::find(text, at, b'\n');
+        show_line(&text[at..end]);
+        at = end + 1;
+    }
+}
+
 fn main() {
-    let t = walk_head(b"", 3);
-    vector_lines::print_after(b"", t.at as u64);
+    let mut text = io::large_buffer();
+    let n = io::read_full(STDIN_FILENO, &mut text);
+    show_lines(&text[..n]);
 }

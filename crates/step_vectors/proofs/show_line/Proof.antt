@@ -6,23 +6,11 @@ use borrow.Author.Needs.{needs}
 use Rattle.step_vectors.proofs.show_line.Statement.{statement}
 use Rattle.step_vectors.proofs.show_line.Tie as tie
 
+comment-requires : tie.Need-comment-requires
+comment-requires c κs = search needs
+
 returns : tie.Need-returns
 returns c = search needs
-
-shared-slice-read-if2 : tie.Need-shared-slice-read-if2
-shared-slice-read-if2 c = search needs
-
-print-requires : tie.Need-print-requires
-print-requires c κs = search needs
-
-slice-aggregate-print : tie.Need-slice-aggregate-print
-slice-aggregate-print c = search needs
-
-print-requires-2 : tie.Need-print-requires-2
-print-requires-2 c κs = search needs
-
-returns-2 : tie.Need-returns-2
-returns-2 c = search needs
 
 word-requires : tie.Need-word-requires
 word-requires c κs = search needs
@@ -63,19 +51,15 @@ cast-print-pages c = search needs
 print-pages-requires : tie.Need-print-pages-requires
 print-pages-requires c κs = search needs
 
-returns-3 : tie.Need-returns-3
-returns-3 c = search needs
+returns-2 : tie.Need-returns-2
+returns-2 c = search needs
 
 pub show-line-spec : {M : Type 1} → statement M
 show-line-spec =
     tie.close
     (tie.spec
+    comment-requires
     returns
-    shared-slice-read-if2
-    print-requires
-    slice-aggregate-print
-    print-requires-2
-    returns-2
     word-requires
     slice-aggregate-decode
     decode-requires
@@ -89,4 +73,4 @@ show-line-spec =
     small-requires-3
     cast-print-pages
     print-pages-requires
-    returns-3)
+    returns-2)
