@@ -1,5 +1,6 @@
--- A dozen worked examples of the definitions, computed: each statement holds because both its sides compute to the same. The lines of
--- the proved table are in `proved_table`; all other examples are run, by the programs `bitmap_vectors`, `write_vectors` and `step_vectors`.
+-- A dozen worked examples of the definitions, computed: each statement holds because both its sides compute to the same.
+-- The lines of the proved table are in `proved_table`; all other examples are run, by the programs `bitmap_vectors`,
+-- `write_vectors`, `chunk_vectors` and `step_vectors`.
 -- Assumes nothing.
 use Prim.Native.Nat.{ℕ}
 use mathlib.Core.Path.{_≡_, refl}
@@ -27,7 +28,8 @@ computed = true
 -- ---- written
 
 -- "0 to 30 takes 40 bytes, sparse": it ends in 1E, and is read as the set
-pub thirty-one : (form (from 0 31) ≡ 1 ∷ 31 ∷ 0 ∷ 0 ∷ 1 ∷ 0 ∷ 0 ∷ 0 ∷ 31 ∷ from 0 31) × (judge (form (from 0 31)) ≡ found (from 0 31))
+pub thirty-one : (form (from 0 31) ≡ 1 ∷ 31 ∷ 0 ∷ 0 ∷ 1 ∷ 0 ∷ 0 ∷ 0 ∷ 31 ∷ from 0 31)
+    × (judge (form (from 0 31)) ≡ found (from 0 31))
 unfolding computed
 thirty-one = (refl, refl)
 
@@ -47,7 +49,8 @@ unfolding computed
 chunk-exception = refl
 
 -- {2,097,151}: 31 chunks of empty containers, then one whose last container holds the last position
-pub last-position : judge (1 ∷ 1 ∷ 0 ∷ 0 ∷ 0x00 ∷ 0x20 ∷ (replicate 93 0 ++ (0x10 ∷ 1 ∷ 0 ∷ 0xFF ∷ 0x80 ∷ 0xFF ∷ []))) ≡ found (2097151 ∷ [])
+pub last-position : judge (1 ∷ 1 ∷ 0 ∷ 0 ∷ 0x00 ∷ 0x20 ∷ (replicate 93 0 ++ (0x10 ∷ 1 ∷ 0 ∷ 0xFF ∷ 0x80 ∷ 0xFF ∷ [])))
+    ≡ found (2097151 ∷ [])
 unfolding computed
 last-position = refl
 
@@ -88,7 +91,8 @@ abbrev form-0 : List ℕ
 form-0 = 1 ∷ 1 ∷ 0 ∷ 0 ∷ 1 ∷ 0 ∷ 0 ∷ 0 ∷ 1 ∷ 0 ∷ []
 
 -- {0, 256} less {0}
-pub difference : called Difference (1 ∷ 2 ∷ 0 ∷ 0 ∷ 2 ∷ 0 ∷ 0 ∷ 0 ∷ 1 ∷ 0 ∷ 0 ∷ []) form-0 12 ≡ found (1 ∷ 1 ∷ 0 ∷ 0 ∷ 2 ∷ 0 ∷ 0x10 ∷ 1 ∷ 0 ∷ 0x01 ∷ 0x80 ∷ 0 ∷ [])
+pub difference : called Difference (1 ∷ 2 ∷ 0 ∷ 0 ∷ 2 ∷ 0 ∷ 0 ∷ 0 ∷ 1 ∷ 0 ∷ 0 ∷ []) form-0 12
+    ≡ found (1 ∷ 1 ∷ 0 ∷ 0 ∷ 2 ∷ 0 ∷ 0x10 ∷ 1 ∷ 0 ∷ 0x01 ∷ 0x80 ∷ 0 ∷ [])
 unfolding computed
 difference = refl
 

@@ -25,7 +25,9 @@ array-share-prefix-bytes : tie.Need-array-share-prefix-bytes
 array-share-prefix-bytes c = search needs
 
 slice-aggregate-print-pages : tie.Need-slice-aggregate-print-pages
-slice-aggregate-print-pages c = sym (length-take-le (c .before .before .decode .result) _ (c .before .before .decode .ensures))
+slice-aggregate-print-pages c =
+    let decode = c .before .before .decode in
+    sym (length-take-le (decode .result) _ (decode .ensures))
 
 word-requires-2 : tie.Need-word-requires-2
 word-requires-2 c κs = search needs

@@ -60,7 +60,14 @@ loop-less : tie.Need-loop-less Inv-loop μ-loop
 loop-less c = search needs
 
 loop-again : tie.Need-loop-again Inv-loop μ-loop
-loop-again c = (omega arith, c .before .before .before .before .before .before .loop .inv .1, length-set (c .before .before .before .before .before .before .loop .out) (c .before .before .before .before .before .before .loop .n) _ ∙ c .before .before .before .before .before .before .loop .inv .2, rw (length-set (c .before .before .before .before .before .before .loop .out) (c .before .before .before .before .before .before .loop .n) _) (omega (arith, c .before .before .before .before .if1 .left)))
+loop-again c =
+    let loop = c .before .before .before .before .before .before .loop in
+    let if1 = c .before .before .before .before .if1 in (
+      omega arith,
+      loop .inv .1,
+      length-set (loop .out) (loop .n) _ ∙ loop .inv .2,
+      rw (length-set (loop .out) (loop .n) _) (omega (arith, if1 .left)),
+    )
 
 same-length-2 : tie.Need-same-length-2 Inv-loop μ-loop
 same-length-2 c = search needs

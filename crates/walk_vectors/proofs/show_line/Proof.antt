@@ -43,13 +43,17 @@ array-share-prefix-schema : tie.Need-array-share-prefix-schema
 array-share-prefix-schema c = search needs
 
 slice-aggregate-question : tie.Need-slice-aggregate-question
-slice-aggregate-question c = sym (length-take-le (c .before .before .before .before .before .before .decode .result) _ (c .before .before .before .before .before .before .decode .ensures))
+slice-aggregate-question c =
+    let decode = c .before .before .before .before .before .before .decode in
+    sym (length-take-le (decode .result) _ (decode .ensures))
 
 array-share-prefix-row : tie.Need-array-share-prefix-row
 array-share-prefix-row c = search needs
 
 slice-aggregate-question-2 : tie.Need-slice-aggregate-question-2
-slice-aggregate-question-2 c = sym (length-take-le (c .before .before .before .decode2 .result) _ (c .before .before .before .decode2 .ensures))
+slice-aggregate-question-2 c =
+    let decode2 = c .before .before .before .decode2 in
+    sym (length-take-le (decode2 .result) _ (decode2 .ensures))
 
 question-requires : tie.Need-question-requires
 question-requires c κs = search needs

@@ -42,10 +42,18 @@ add-n : tie.Need-add-n Inv-loop μ-loop
 add-n c = search needs
 
 loop-less : tie.Need-loop-less Inv-loop μ-loop
-loop-less c = omega (arith, c .before .before .before .before .loop .inv .1, c .before .before .before .loop-test .taken)
+loop-less c =
+    let inv = c .before .before .before .before .loop .inv in
+    let loop-test = c .before .before .before .loop-test in
+    omega (arith, inv .1, loop-test .taken)
 
 loop-again : tie.Need-loop-again Inv-loop μ-loop
-loop-again c = (rw (length-set (c .before .before .before .before .loop .list) (c .before .before .before .before .loop .n) _) (omega (arith, c .before .before .before .loop-test .taken)), length-set (c .before .before .before .before .loop .list) (c .before .before .before .before .loop .n) _ ∙ c .before .before .before .before .loop .inv .1)
+loop-again c =
+    let loop = c .before .before .before .before .loop in
+    let loop-test = c .before .before .before .loop-test in (
+      rw (length-set (loop .list) (loop .n) _) (omega (arith, loop-test .taken)),
+      length-set (loop .list) (loop .n) _ ∙ loop .inv .1,
+    )
 
 same-length-2 : tie.Need-same-length-2 Inv-loop μ-loop
 same-length-2 c = search needs

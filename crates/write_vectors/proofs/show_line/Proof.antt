@@ -47,19 +47,25 @@ array-share-prefix-first : tie.Need-array-share-prefix-first
 array-share-prefix-first c = search needs
 
 slice-aggregate-call : tie.Need-slice-aggregate-call
-slice-aggregate-call c = sym (length-take-le (c .before .before .before .before .before .before .decode .result) _ (c .before .before .before .before .before .before .decode .ensures))
+slice-aggregate-call c =
+    let decode = c .before .before .before .before .before .before .decode in
+    sym (length-take-le (decode .result) _ (decode .ensures))
 
 array-share-prefix-second : tie.Need-array-share-prefix-second
 array-share-prefix-second c = search needs
 
 slice-aggregate-call-2 : tie.Need-slice-aggregate-call-2
-slice-aggregate-call-2 c = sym (length-take-le (c .before .before .before .decode2 .result) _ (c .before .before .before .decode2 .ensures))
+slice-aggregate-call-2 c =
+    let decode2 = c .before .before .before .decode2 in
+    sym (length-take-le (decode2 .result) _ (decode2 .ensures))
 
 array-borrow-prefix-out : tie.Need-array-borrow-prefix-out
 array-borrow-prefix-out c = search needs
 
 slice-aggregate-call-3 : tie.Need-slice-aggregate-call-3
-slice-aggregate-call-3 c = sym (length-take-le _ _ (omega (arith, c .before .before .before .before .before .before .before .before .before .before .before .if2 .left)))
+slice-aggregate-call-3 c =
+    let if2 = c .before .before .before .before .before .before .before .before .before .before .before .if2 in
+    sym (length-take-le _ _ (omega (arith, if2 .left)))
 
 call-requires : tie.Need-call-requires
 call-requires c κs = search needs
