@@ -1,6 +1,6 @@
 // Runs the reading calls over the bitmaps of standard input, a line of hexadecimal digits for each, and further positions to ask,
 // and prints their answers. The file stdin has those that 01's rules single out, each refusal and each two rules that follow each
-// other among them; stdout was made by another program from 01 alone, and for the last part by hand.
+// other among them; stdout was made by other programs, from 01 alone and, in its last part, from each line's set or refusal.
 use bitmap_list::Paged;
 use bitmap_read::Checked;
 use bitmap_read::Probed;

@@ -1,6 +1,6 @@
 // Writes sets, rewrites bitmaps from their sets and combines bitmaps: a line of standard input for each call. A line of the output has
 // the answer and the whole output, which holds aa bytes before the call: an aa behind the form, or after a refusal, was left as it
-// was. The lines are compared with the file stdout, which was worked out from 01 by hand.
+// was. The lines are compared with the file stdout, whose forms were written down before the calls were run.
 ghost use Prim.Native.Nat.{_≤_};
 ghost use lib.ListN.{length};
 use bitmap_list::Paged;
