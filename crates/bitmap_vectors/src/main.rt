@@ -1,26 +1,19 @@
-// Runs the reading calls over the bitmaps of standard input, a line of hexadecimal digits for each, and prints their answers.
-// The file stdin has those that 01's rules single out, each refusal among them; stdout was made by another program from 01 alone.
-ghost use Prim.Native.Nat.{_≤_, _<_};
-ghost use lib.ListN.{length};
+// Runs the reading calls over the bitmaps of standard input, a line of hexadecimal digits for each, and further positions to ask,
+// and prints their answers. The file stdin has those that 01's rules single out, each refusal and each two rules that follow each
+// other among them; stdout was made by other programs, from 01 alone and, in its last part, from each line's set or refusal.
 use bitmap_list::Paged;
 use bitmap_read::Checked;
 use bitmap_read::Probed;
 use bitmap_read::Ranked;
 use bitmap_spec::Listing;
 use libc::STDIN_FILENO;
-use libc::STDOUT_FILENO;
-
-fn print(n: u32) {
-    io::print_decimal(STDOUT_FILENO, n as u64);
-}
 
 fn print_after(text: &[u8], n: u32) {
-    io::write_all(STDOUT_FILENO, text);
-    print(n);
+    vector_lines::print_after(text, n as u64);
 }
 
 fn end_line() {
-    io::write_all(STDOUT_FILENO, b"\n");
+    vector_lines::print(b"\n");
 }
 
 fn yes(b: bool) -> u32 {
@@ -29,7 +22,7 @@ fn yes(b: bool) -> u32 {
 
 // A line with a position, whether it is a member, and how many members lie below it.
 fn ask(s: &[u8], position: u32) {
-    print(position);
+    print_after(b"", position);
     match bitmap_read::probe(s, position) {
         Probed::Refused(n) => print_after(b" refused ", n),
         Probed::Member(b) => print_after(b" ", yes(b)),
@@ -68,8 +61,7 @@ fn print_page(s: &[u8], at: Listing) -> Listing {
         }
         Paged::Page { given, next } => {
             print_members(&list, given);
-            io::write_all(STDOUT_FILENO, b"page ");
-            io::print_decimal(STDOUT_FILENO, given as u64);
+            vector_lines::print_after(b"page ", given as u64);
             print_after(b" ", next.place);
             print_after(b" ", yes(next.finished));
             end_line();
@@ -94,7 +86,20 @@ fn print_pages(s: &[u8]) {
     }
 }
 
-fn show(s: &[u8]) {
+// The positions of the words from word 1 on, up to 16.
+fn ask_words(s: &[u8], words: &[u8]) {
+    let mut k: usize = 1;
+    while k < 17 {
+        let w = vector_lines::word(words, k);
+        if w.len() == 0 {
+            return;
+        }
+        ask(s, vector_lines::small(w));
+        k += 1;
+    }
+}
+
+fn show(s: &[u8], words: &[u8]) {
     match bitmap_read::check(s) {
         Checked::Refused(n) => {
             print_after(b"refused ", n);
@@ -108,68 +113,26 @@ fn show(s: &[u8]) {
             ask(s, 256);
             ask(s, 2097151);
             ask(s, 4294967295);
+            ask_words(s, words);
             print_pages(s);
         }
     }
 }
 
-// The value of a hexadecimal digit.
-fn digit(c: u8) -> u8
-    ensures { λ r. ⌜ r < 16 ⌝ }
-{
-    if c < 58 { c % 16 } else { (c % 16 + 9) % 16 }
-}
-
-// Puts the bytes that the line's pairs of digits stand for at the start of out, as many as it takes, and says how many.
-fn decode(line: &[u8], out: &mut [u8]) -> usize
-    ensures { λ r. ⌜ r ≤ length (now (out .exit)) ⌝ }
-{
-    let pairs = line.len() / 2;
-    let mut n: usize = 0;
-    while n < pairs {
-        if out.len() <= n {
-            return n;
-        }
-        out[n] = digit(line[n * 2]) * 16 + digit(line[n * 2 + 1]);
-        n += 1;
-    }
-    n
-}
-
-// A line that starts with # is printed; any other is a bitmap in hexadecimal digits.
+// A line that starts with # is printed; any other is a bitmap and positions.
 fn show_line(line: &[u8]) {
-    if line.len() == 0 {
-        return;
-    }
-    if line[0] == b'#' {
-        io::write_all(STDOUT_FILENO, line);
-        end_line();
+    if vector_lines::comment(line) {
         return;
     }
     let mut bytes = [0u8; 1024];
-    let n = decode(line, &mut bytes);
-    show(&bytes[..n]);
-}
-
-// Where the line that starts at `from` ends.
-fn line_end(text: &[u8], from: usize) -> usize
-    requires { ⌜ from < length (now text) ⌝ }
-    ensures { λ r. ⌜ (from ≤ r) × (r ≤ length (now (text .entry))) ⌝ }
-{
-    let mut i = from;
-    while i < text.len() {
-        if text[i] == b'\n' {
-            return i;
-        }
-        i += 1;
-    }
-    i
+    let n = vector_lines::decode(vector_lines::word(line, 0), &mut bytes);
+    show(&bytes[..n], line);
 }
 
 fn show_lines(text: &[u8]) {
     let mut at: usize = 0;
     while at < text.len() {
-        let end = line_end(text, at);
+        let end = vector_lines::find(text, at, b'\n');
         show_line(&text[at..end]);
         at = end + 1;
     }

@@ -1,9 +1,57 @@
-// Buckets of 01 and of every rule, read from standard input (data/cases.txt lists them): each line of the output is a case's name and
-// its answer, compared with the file stdout.
-mod say;
+// Buckets of 01 and of every rule: a line of standard input for each case, in hexadecimal digits, `-` for no byte. Each line of the
+// output is a case's name and its answer, compared with the file stdout, which was made from 01's rules and not by this
+// library.
+use libc::STDIN_FILENO;
+
+// The field of a row and a column, and its part.
+fn ask(schema: &[u8], rows: u32, bucket: &[u8], row: u32, column: u32, whole: &[u8]) {
+    vector_fields::print_answer(buckets::field(schema, rows, bucket, row, column), whole);
+    vector_fields::print_part(buckets::part(schema, rows, bucket, row, column));
+}
+
+// The question: `schema S, rows N, bucket B`, or that and `row R, column C, whole W`.
+fn question(words: &[u8], schema: &[u8], bucket: &[u8]) {
+    let rows = vector_lines::small(vector_lines::word(words, 3));
+    if vector_lines::word(words, 7).len() == 0 {
+        vector_lines::print_after(b": ", buckets::check(schema, rows, bucket) as u64);
+        vector_lines::print(b"\n");
+        return;
+    }
+    ask(
+        schema,
+        rows,
+        bucket,
+        vector_lines::small(vector_lines::word(words, 7)),
+        vector_lines::small(vector_lines::word(words, 9)),
+        vector_lines::word(words, 11),
+    );
+}
+
+// A line that starts with # is printed; any other is a name, a colon and a question.
+fn show_line(line: &[u8]) {
+    if vector_lines::comment(line) {
+        return;
+    }
+    let words = vector_lines::after(line, b':');
+    vector_lines::print(vector_lines::before(line, b':'));
+    let mut schema = [0u8; 256];
+    let n = vector_lines::decode(vector_lines::word(words, 1), &mut schema);
+    let mut bucket = [0u8; 256];
+    let m = vector_lines::decode(vector_lines::word(words, 5), &mut bucket);
+    question(words, &schema[..n], &bucket[..m]);
+}
+
+fn show_lines(text: &[u8]) {
+    let mut at: usize = 0;
+    while at < text.len() {
+        let end = vector_lines::find(text, at, b'\n');
+        show_line(&text[at..end]);
+        at = end + 1;
+    }
+}
 
 fn main() {
-    let mut buf = io::large_buffer();
-    let n = io::read_full(0, &mut buf);
-    say::run(&buf[..n]);
+    let mut text = io::large_buffer();
+    let n = io::read_full(STDIN_FILENO, &mut text);
+    show_lines(&text[..n]);
 }

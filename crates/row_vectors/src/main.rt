@@ -1,9 +1,78 @@
-// Row blocks and schemas of 01 and of every rule, read from standard input (data/cases.txt lists them): each line of the output is a
-// case's name and its answer, compared with the file stdout.
-mod say;
+// Row blocks and schemas of 01 and of every rule: a line of standard input for each case, in hexadecimal digits, `-` for no byte.
+// Each line of the output is a case's name and its answer, compared with the file stdout, which was made from 01's rules and not by
+// this library.
+use libc::STDIN_FILENO;
+use row_spec::ColumnAnswer;
+use row_spec::CountAnswer;
+
+// The field of a row and a column, and its part.
+fn ask(schema: &[u8], block: &[u8], row: u32, column: u32, whole: &[u8]) {
+    vector_fields::print_answer(rows::field(schema, block, row, column), whole);
+    vector_fields::print_part(rows::part(schema, block, row, column));
+}
+
+// The number of rows.
+fn count(schema: &[u8], block: &[u8]) {
+    match rows::check(schema, block) {
+        CountAnswer::Refused(n) => vector_fields::print_refused(n),
+        CountAnswer::Count(n) => vector_lines::print_after(b": rows ", n as u64),
+    }
+    vector_lines::print(b"\n");
+}
+
+// Whether a column of a schema is there.
+fn column(bytes: &[u8], i: u32) {
+    match schema::column(bytes, i) {
+        ColumnAnswer::Refused(n) => vector_fields::print_refused(n),
+        ColumnAnswer::Column(c) => vector_lines::print_after(b": nullable ", c.nullable as u64),
+    }
+    vector_lines::print(b"\n");
+}
+
+// The question: `schema S, column C`, `schema S, block B`, or that and `row R, column C, whole W`.
+fn question(words: &[u8], schema: &[u8], block: &[u8]) {
+    if vector_lines::starts(vector_lines::word(words, 2), b'c') {
+        column(schema, vector_lines::small(vector_lines::word(words, 3)));
+        return;
+    }
+    if vector_lines::word(words, 5).len() == 0 {
+        count(schema, block);
+        return;
+    }
+    ask(
+        schema,
+        block,
+        vector_lines::small(vector_lines::word(words, 5)),
+        vector_lines::small(vector_lines::word(words, 7)),
+        vector_lines::word(words, 9),
+    );
+}
+
+// A line that starts with # is printed; any other is a name, a colon and a question.
+fn show_line(line: &[u8]) {
+    if vector_lines::comment(line) {
+        return;
+    }
+    let words = vector_lines::after(line, b':');
+    vector_lines::print(vector_lines::before(line, b':'));
+    let mut schema = [0u8; 256];
+    let n = vector_lines::decode(vector_lines::word(words, 1), &mut schema);
+    let mut block = [0u8; 256];
+    let m = vector_lines::decode(vector_lines::word(words, 3), &mut block);
+    question(words, &schema[..n], &block[..m]);
+}
+
+fn show_lines(text: &[u8]) {
+    let mut at: usize = 0;
+    while at < text.len() {
+        let end = vector_lines::find(text, at, b'\n');
+        show_line(&text[at..end]);
+        at = end + 1;
+    }
+}
 
 fn main() {
-    let mut buf = io::large_buffer();
-    let n = io::read_full(0, &mut buf);
-    say::run(&buf[..n]);
+    let mut text = io::large_buffer();
+    let n = io::read_full(STDIN_FILENO, &mut text);
+    show_lines(&text[..n]);
 }

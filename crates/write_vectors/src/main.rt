@@ -1,96 +1,133 @@
-// Writes 01's sets as bitmaps. A line has the set, the answer and the whole output, which holds aa bytes before the call:
-// an aa behind the form, or after a refusal, was left as it was. The lines are compared with the file stdout.
-ghost use mathlib.Core.Path.{_≡_};
+// Writes sets, rewrites bitmaps from their sets and combines bitmaps: a line of standard input for each call. A line of the output has
+// the answer and the whole output, which holds aa bytes before the call: an aa behind the form, or after a refusal, was left as it
+// was. The lines are compared with the file stdout, whose forms were written down before the calls were run.
+ghost use Prim.Native.Nat.{_≤_};
 ghost use lib.ListN.{length};
+use bitmap_list::Paged;
+use bitmap_spec::Listing;
 use bitmap_spec::Written;
+use libc::STDIN_FILENO;
 
-fn say(answer: Written) {
+// Prints an answer and the output.
+fn print_written(answer: Written, out: &[u8]) {
     match answer {
-        Written::Refused(n) => {
-            io::write_all(1, b"refused ");
-            io::print_decimal(1, n as u64);
-        }
-        Written::Length(n) => {
-            io::write_all(1, b"length ");
-            io::print_decimal(1, n as u64);
-        }
+        Written::Refused(n) => vector_lines::print_after(b"refused ", n as u64),
+        Written::Length(n) => vector_lines::print_after(b"length ", n as u64),
     }
+    vector_lines::print(b": ");
+    vector_lines::print_bytes(out);
+    vector_lines::print(b"\n");
 }
 
-fn wide(x: u8) -> u64 {
-    x as u64
-}
-
-// The bytes in hex.
-fn show(s: &[u8]) {
-    let mut i: usize = 0;
-    while i < s.len() {
-        io::write_all(1, b" ");
-        io::print_hex(1, wide(s[i]), 2);
-        i += 1;
-    }
-}
-
-// One line.
-fn line(name: &[u8], positions: &[u32], out: &mut [u8]) {
-    io::write_all(1, name);
-    io::write_all(1, b": ");
-    say(bitmap_write::write_list(positions, out));
-    io::write_all(1, b",");
-    show(out);
-    io::write_all(1, b"\n");
-}
-
-// The sets of the proved table, each with one byte more than its form takes.
-fn proved() {
-    line(b"empty", &[0u32; 0], &mut [0xAAu8; 7]);
-    line(b"0", &[0u32], &mut [0xAAu8; 11]);
-    line(b"0, 34, 255", &[0u32, 34, 255], &mut [0xAAu8; 13]);
-    line(b"256", &[256u32], &mut [0xAAu8; 13]);
-    line(b"0, 256", &[0u32, 256], &mut [0xAAu8; 12]);
-}
-
-// 0 to 31.
-fn to_31() -> [u32; 32]
-    ensures { λ r. ⌜ 32 ≡ length r ⌝ }
+// Puts the numbers of the words from word 4 on into the list, as many as it takes, and says how many.
+fn numbers(words: &[u8], list: &mut [u32]) -> usize
+    ensures { λ r. ⌜ r ≤ length (now (list .exit)) ⌝ }
 {
-    let mut list = [0u32; 32];
-    let mut i: usize = 0;
-    while i < 32 {
-        list[i] = i as u32;
-        i += 1;
+    let mut n: usize = 0;
+    while n < list.len() {
+        let w = vector_lines::word(words, n + 4);
+        if w.len() == 0 {
+            return n;
+        }
+        list[n] = vector_lines::small(w);
+        n += 1;
     }
-    list
+    n
 }
 
-// The largest sparse container, the smallest dense one, and the last position.
-fn edges() {
-    let list = to_31();
-    line(b"0 to 30", &list[..31], &mut [0xAAu8; 41]);
-    line(b"0 to 31", &list, &mut [0xAAu8; 42]);
-    line(b"2097151", &[2097151u32], &mut [0xAAu8; 106]);
+// Writes the first n numbers.
+fn write_first(list: &[u32], n: usize, out: &mut [u8]) {
+    if list.len() < n {
+        return;
+    }
+    print_written(bitmap_write::write_list(&list[..n], out), out);
 }
 
-// Positions that are refused, also where there is no room.
-fn refused() {
-    line(b"2097152", &[2097152u32], &mut [0xAAu8; 4]);
-    line(b"5, 5", &[5u32, 5], &mut [0xAAu8; 12]);
-    line(b"0, 6, 5", &[0u32, 6, 5], &mut [0xAAu8; 12]);
-    line(b"6, 5 without room", &[6u32, 5], &mut [0xAAu8; 0]);
+// Writes the set whose numbers stand from word 4 on.
+fn write(words: &[u8], out: &mut [u8]) {
+    let mut list = [0u32; 64];
+    let n = numbers(words, &mut list);
+    write_first(&list, n, out);
 }
 
-// A form of 10 bytes and rooms around it.
-fn rooms() {
-    line(b"0 in 10 bytes", &[0u32], &mut [0xAAu8; 10]);
-    line(b"0 in 9 bytes", &[0u32], &mut [0xAAu8; 9]);
-    line(b"0 in 0 bytes", &[0u32], &mut [0xAAu8; 0]);
-    line(b"empty in 6 bytes", &[0u32; 0], &mut [0xAAu8; 6]);
-    line(b"empty in 5 bytes", &[0u32; 0], &mut [0xAAu8; 5]);
+// Writes the set of a bitmap of up to 256 members.
+fn rewrite(s: &[u8], out: &mut [u8]) {
+    let mut list = [0u32; 256];
+    let start = Listing {
+        place: 0,
+        finished: false,
+    };
+    match bitmap_list::page(s, start, &mut list) {
+        Paged::Refused(n) => print_written(Written::Refused(n), out),
+        Paged::Page { given, next } => {
+            if next.finished {
+                write_first(&list, given, out);
+            } else {
+                vector_lines::print(b"over 256 members\n");
+            }
+        }
+    }
+}
+
+// Combines two bitmaps.
+fn combine(name: &[u8], a: &[u8], b: &[u8], out: &mut [u8]) {
+    if vector_lines::starts(name, b'u') {
+        print_written(bitmap_combine::union(a, b, out), out);
+        return;
+    }
+    if vector_lines::starts(name, b'i') {
+        print_written(bitmap_combine::intersection(a, b, out), out);
+        return;
+    }
+    if vector_lines::starts(name, b'd') {
+        print_written(bitmap_combine::difference(a, b, out), out);
+        return;
+    }
+    print_written(bitmap_combine::symmetric_difference(a, b, out), out);
+}
+
+// `write, room N, set` and numbers; `rewrite, room N, bitmap B`; or the name of an operation and `room N, first A, second B`.
+fn call(words: &[u8], a: &[u8], b: &[u8], out: &mut [u8]) {
+    let name = vector_lines::word(words, 0);
+    if vector_lines::starts(name, b'w') {
+        write(words, out);
+        return;
+    }
+    if vector_lines::starts(name, b'r') {
+        rewrite(a, out);
+        return;
+    }
+    combine(name, a, b, out);
+}
+
+// A line that starts with # is printed; any other is a call.
+fn show_line(line: &[u8]) {
+    if vector_lines::comment(line) {
+        return;
+    }
+    let room = vector_lines::small(vector_lines::word(line, 2)) as usize;
+    if 256 < room {
+        return;
+    }
+    let mut first = [0u8; 256];
+    let n = vector_lines::decode(vector_lines::word(line, 4), &mut first);
+    let mut second = [0u8; 256];
+    let m = vector_lines::decode(vector_lines::word(line, 6), &mut second);
+    let mut out = [0xAAu8; 256];
+    call(line, &first[..n], &second[..m], &mut out[..room]);
+}
+
+fn show_lines(text: &[u8]) {
+    let mut at: usize = 0;
+    while at < text.len() {
+        let end = vector_lines::find(text, at, b'\n');
+        show_line(&text[at..end]);
+        at = end + 1;
+    }
 }
 
 fn main() {
-    proved();
-    edges();
-    refused();
-    rooms();
+    let mut text = io::large_buffer();
+    let n = io::read_full(STDIN_FILENO, &mut text);
+    show_lines(&text[..n]);
 }
