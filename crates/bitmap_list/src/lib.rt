@@ -146,14 +146,12 @@ pub fn page(s: &[u8], at: Listing, list: &mut [u32]) -> Paged
                 return Paged::Page { given: 0, next: at };
             }
             let r = list_from(s, &d, count, start, at.place, list);
+            let given = r.given;
             let next = Listing {
                 place: r.place,
                 finished: r.all,
             };
-            Paged::Page {
-                given: r.given,
-                next,
-            }
+            Paged::Page { given, next }
         }
     }
 }
