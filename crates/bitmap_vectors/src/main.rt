@@ -9,11 +9,11 @@ use bitmap_spec::Listing;
 use libc::STDIN_FILENO;
 
 fn print_after(text: &[u8], n: u32) {
-    vector_lines::print_after(text, n as u64);
+    vector_text::print_after(text, n as u64);
 }
 
 fn end_line() {
-    vector_lines::print(b"\n");
+    vector_text::print(b"\n");
 }
 
 fn yes(b: bool) -> u32 {
@@ -61,7 +61,7 @@ fn print_page(s: &[u8], at: Listing) -> Listing {
         }
         Paged::Page { given, next } => {
             print_members(&list, given);
-            vector_lines::print_after(b"page ", given as u64);
+            vector_text::print_after(b"page ", given as u64);
             print_after(b" ", next.place);
             print_after(b" ", yes(next.finished));
             end_line();
@@ -90,11 +90,11 @@ fn print_pages(s: &[u8]) {
 fn ask_words(s: &[u8], words: &[u8]) {
     let mut k: usize = 1;
     while k < 17 {
-        let w = vector_lines::word(words, k);
+        let w = vector_text::word(words, k);
         if w.len() == 0 {
             return;
         }
-        ask(s, vector_lines::small(w));
+        ask(s, vector_text::small(w));
         k += 1;
     }
 }
@@ -121,18 +121,18 @@ fn show(s: &[u8], words: &[u8]) {
 
 // A line that starts with # is printed; any other is a bitmap and positions.
 fn show_line(line: &[u8]) {
-    if vector_lines::comment(line) {
+    if vector_text::comment(line) {
         return;
     }
     let mut bytes = [0u8; 1024];
-    let n = vector_lines::decode(vector_lines::word(line, 0), &mut bytes);
+    let n = vector_text::decode(vector_text::word(line, 0), &mut bytes);
     show(&bytes[..n], line);
 }
 
 fn show_lines(text: &[u8]) {
     let mut at: usize = 0;
     while at < text.len() {
-        let end = vector_lines::find(text, at, b'\n');
+        let end = vector_text::find(text, at, b'\n');
         show_line(&text[at..end]);
         at = end + 1;
     }

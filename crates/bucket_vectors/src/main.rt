@@ -11,40 +11,40 @@ fn ask(schema: &[u8], rows: u32, bucket: &[u8], row: u32, column: u32, whole: &[
 
 // The question: `schema S, rows N, bucket B`, or that and `row R, column C, whole W`.
 fn question(words: &[u8], schema: &[u8], bucket: &[u8]) {
-    let rows = vector_lines::small(vector_lines::word(words, 3));
-    if vector_lines::word(words, 7).len() == 0 {
-        vector_lines::print_after(b": ", buckets::check(schema, rows, bucket) as u64);
-        vector_lines::print(b"\n");
+    let rows = vector_text::small(vector_text::word(words, 3));
+    if vector_text::word(words, 7).len() == 0 {
+        vector_text::print_after(b": ", buckets::check(schema, rows, bucket) as u64);
+        vector_text::print(b"\n");
         return;
     }
     ask(
         schema,
         rows,
         bucket,
-        vector_lines::small(vector_lines::word(words, 7)),
-        vector_lines::small(vector_lines::word(words, 9)),
-        vector_lines::word(words, 11),
+        vector_text::small(vector_text::word(words, 7)),
+        vector_text::small(vector_text::word(words, 9)),
+        vector_text::word(words, 11),
     );
 }
 
 // A line that starts with # is printed; any other is a name, a colon and a question.
 fn show_line(line: &[u8]) {
-    if vector_lines::comment(line) {
+    if vector_text::comment(line) {
         return;
     }
-    let words = vector_lines::after(line, b':');
-    vector_lines::print(vector_lines::before(line, b':'));
+    let words = vector_text::after(line, b':');
+    vector_text::print(vector_text::before(line, b':'));
     let mut schema = [0u8; 256];
-    let n = vector_lines::decode(vector_lines::word(words, 1), &mut schema);
+    let n = vector_text::decode(vector_text::word(words, 1), &mut schema);
     let mut bucket = [0u8; 256];
-    let m = vector_lines::decode(vector_lines::word(words, 5), &mut bucket);
+    let m = vector_text::decode(vector_text::word(words, 5), &mut bucket);
     question(words, &schema[..n], &bucket[..m]);
 }
 
 fn show_lines(text: &[u8]) {
     let mut at: usize = 0;
     while at < text.len() {
-        let end = vector_lines::find(text, at, b'\n');
+        let end = vector_text::find(text, at, b'\n');
         show_line(&text[at..end]);
         at = end + 1;
     }

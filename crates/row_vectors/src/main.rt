@@ -15,57 +15,57 @@ fn ask(schema: &[u8], block: &[u8], row: u32, column: u32, whole: &[u8]) {
 fn count(schema: &[u8], block: &[u8]) {
     match rows::check(schema, block) {
         CountAnswer::Refused(n) => vector_fields::print_refused(n),
-        CountAnswer::Count(n) => vector_lines::print_after(b": rows ", n as u64),
+        CountAnswer::Count(n) => vector_text::print_after(b": rows ", n as u64),
     }
-    vector_lines::print(b"\n");
+    vector_text::print(b"\n");
 }
 
 // Whether a column of a schema is there.
 fn column(bytes: &[u8], i: u32) {
     match schema::column(bytes, i) {
         ColumnAnswer::Refused(n) => vector_fields::print_refused(n),
-        ColumnAnswer::Column(c) => vector_lines::print_after(b": nullable ", c.nullable as u64),
+        ColumnAnswer::Column(c) => vector_text::print_after(b": nullable ", c.nullable as u64),
     }
-    vector_lines::print(b"\n");
+    vector_text::print(b"\n");
 }
 
 // The question: `schema S, column C`, `schema S, block B`, or that and `row R, column C, whole W`.
 fn question(words: &[u8], schema: &[u8], block: &[u8]) {
-    if vector_lines::starts(vector_lines::word(words, 2), b'c') {
-        column(schema, vector_lines::small(vector_lines::word(words, 3)));
+    if vector_text::starts(vector_text::word(words, 2), b'c') {
+        column(schema, vector_text::small(vector_text::word(words, 3)));
         return;
     }
-    if vector_lines::word(words, 5).len() == 0 {
+    if vector_text::word(words, 5).len() == 0 {
         count(schema, block);
         return;
     }
     ask(
         schema,
         block,
-        vector_lines::small(vector_lines::word(words, 5)),
-        vector_lines::small(vector_lines::word(words, 7)),
-        vector_lines::word(words, 9),
+        vector_text::small(vector_text::word(words, 5)),
+        vector_text::small(vector_text::word(words, 7)),
+        vector_text::word(words, 9),
     );
 }
 
 // A line that starts with # is printed; any other is a name, a colon and a question.
 fn show_line(line: &[u8]) {
-    if vector_lines::comment(line) {
+    if vector_text::comment(line) {
         return;
     }
-    let words = vector_lines::after(line, b':');
-    vector_lines::print(vector_lines::before(line, b':'));
+    let words = vector_text::after(line, b':');
+    vector_text::print(vector_text::before(line, b':'));
     let mut schema = [0u8; 256];
-    let n = vector_lines::decode(vector_lines::word(words, 1), &mut schema);
+    let n = vector_text::decode(vector_text::word(words, 1), &mut schema);
     let mut block = [0u8; 256];
-    let m = vector_lines::decode(vector_lines::word(words, 3), &mut block);
+    let m = vector_text::decode(vector_text::word(words, 3), &mut block);
     question(words, &schema[..n], &block[..m]);
 }
 
 fn show_lines(text: &[u8]) {
     let mut at: usize = 0;
     while at < text.len() {
-        let end = vector_lines::find(text, at, b'\n');
+        let end = vector_text::find(text, at, b'\n');
         show_line(&text[at..end]);
         at = end + 1;
     }

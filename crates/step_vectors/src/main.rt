@@ -39,7 +39,7 @@ fn yes(b: bool) -> u64 {
 fn print_list(list: &[u32]) {
     let mut i: usize = 0;
     while i < list.len() {
-        vector_lines::print_after(b" ", wide(list[i]));
+        vector_text::print_after(b" ", wide(list[i]));
         i += 1;
     }
 }
@@ -48,11 +48,11 @@ fn print_list(list: &[u32]) {
 fn print_answer(answer: Given) -> bool {
     match answer {
         Given::Refused(n) => {
-            vector_lines::print_after(b"refused ", wide(n));
+            vector_text::print_after(b"refused ", wide(n));
             true
         }
         Given::Count(n) => {
-            vector_lines::print_after(b"gave ", n as u64);
+            vector_text::print_after(b"gave ", n as u64);
             false
         }
     }
@@ -70,11 +70,11 @@ fn print_page(s: &[u8], place: u32, finished: bool, list: &mut [u32]) -> Stand {
     let t = one_page(s, place, finished, list);
     let answer = t.answer;
     let refused = print_answer(answer);
-    vector_lines::print(b":");
+    vector_text::print(b":");
     print_list(list);
-    vector_lines::print_after(b", place ", wide(t.place));
-    vector_lines::print_after(b", mark ", yes(t.finished));
-    vector_lines::print(b"\n");
+    vector_text::print_after(b", place ", wide(t.place));
+    vector_text::print_after(b", mark ", yes(t.finished));
+    vector_text::print(b"\n");
     Stand {
         place: t.place,
         finished: t.finished,
@@ -108,23 +108,23 @@ fn print_pages(s: &[u8], place: u32, finished: bool, room: usize) {
 
 // A line that starts with # is printed; any other is `place P, mark M, room N, bitmap` and hexadecimal digits.
 fn show_line(line: &[u8]) {
-    if vector_lines::comment(line) {
+    if vector_text::comment(line) {
         return;
     }
     let mut bytes = [0u8; 1024];
-    let n = vector_lines::decode(vector_lines::word(line, 7), &mut bytes);
+    let n = vector_text::decode(vector_text::word(line, 7), &mut bytes);
     print_pages(
         &bytes[..n],
-        vector_lines::small(vector_lines::word(line, 1)),
-        vector_lines::small(vector_lines::word(line, 3)) == 1,
-        vector_lines::small(vector_lines::word(line, 5)) as usize,
+        vector_text::small(vector_text::word(line, 1)),
+        vector_text::small(vector_text::word(line, 3)) == 1,
+        vector_text::small(vector_text::word(line, 5)) as usize,
     );
 }
 
 fn show_lines(text: &[u8]) {
     let mut at: usize = 0;
     while at < text.len() {
-        let end = vector_lines::find(text, at, b'\n');
+        let end = vector_text::find(text, at, b'\n');
         show_line(&text[at..end]);
         at = end + 1;
     }

@@ -8,23 +8,23 @@ fn wide(n: u32) -> u64 {
 
 // Prints a refusal's number.
 pub fn print_refused(n: u32) {
-    vector_lines::print_after(b": refused ", wide(n));
+    vector_text::print_after(b": refused ", wide(n));
 }
 
 // Prints a field's kind, whether its whole number is the one wanted, its bits, nanoseconds, start and length.
 fn print_field(f: Field, whole: &[u8]) {
     let v = values::show(f);
     let z = v.whole;
-    vector_lines::print_after(b": kind ", v.kind as u64);
-    if z == numbers::signed(vector_lines::signed(whole), 9223372036854775808) {
-        vector_lines::print(b" as wanted");
+    vector_text::print_after(b": kind ", v.kind as u64);
+    if z == numbers::signed(vector_text::signed(whole), 9223372036854775808) {
+        vector_text::print(b" as wanted");
     } else {
-        vector_lines::print(b" NOT AS WANTED");
+        vector_text::print(b" NOT AS WANTED");
     }
-    vector_lines::print_after(b" ", v.bits);
-    vector_lines::print_after(b" ", v.nanos as u64);
-    vector_lines::print_after(b" ", v.start as u64);
-    vector_lines::print_after(b" ", v.length as u64);
+    vector_text::print_after(b" ", v.bits);
+    vector_text::print_after(b" ", v.nanos as u64);
+    vector_text::print_after(b" ", v.start as u64);
+    vector_text::print_after(b" ", v.length as u64);
 }
 
 // Prints an answer, and says whether it is a refusal.
@@ -43,6 +43,6 @@ pub fn print_answer(answer: FieldAnswer, whole: &[u8]) -> bool {
 
 // Prints a part's length, and ends the line.
 pub fn print_part(part: &[u8]) {
-    vector_lines::print_after(b" part ", part.len() as u64);
-    vector_lines::print(b"\n");
+    vector_text::print_after(b" part ", part.len() as u64);
+    vector_text::print(b"\n");
 }

@@ -48,8 +48,8 @@ struct Stand {
 }
 
 fn print_place(at: usize) {
-    vector_lines::print_after(b", place ", at as u64);
-    vector_lines::print(b"\n");
+    vector_text::print_after(b", place ", at as u64);
+    vector_text::print(b"\n");
 }
 
 // Field i, and its line.
@@ -62,7 +62,7 @@ fn print_field(schema: &[u8], row: &[u8], at: usize, i: u32, whole: &[u8]) -> St
         ColumnAnswer::Column(c) => {
             let t = walk_field(row, at, i as usize, c);
             let answer = t.answer;
-            vector_lines::print_after(b"field ", i as u64);
+            vector_text::print_after(b"field ", i as u64);
             let refused = vector_fields::print_answer(answer, whole);
             print_place(t.at);
             Stand {
@@ -86,7 +86,7 @@ fn print_fields(schema: &[u8], row: &[u8], columns: u32, from: usize, words: &[u
             row,
             at.at,
             i,
-            vector_lines::word(words, (i as usize) + 5),
+            vector_text::word(words, (i as usize) + 5),
         );
         if at.ends {
             return;
@@ -108,7 +108,7 @@ fn print_row(schema: &[u8], row: &[u8], columns: u32, words: &[u8]) {
             print_place(t.at);
         }
         CountAnswer::Count(n) => {
-            vector_lines::print_after(b": columns ", n as u64);
+            vector_text::print_after(b": columns ", n as u64);
             print_place(t.at);
             print_fields(schema, row, columns, t.at, words);
         }
@@ -120,7 +120,7 @@ fn question(words: &[u8], schema: &[u8], row: &[u8]) {
     match schema::check(schema) {
         CountAnswer::Refused(n) => {
             vector_fields::print_refused(n);
-            vector_lines::print(b"\n");
+            vector_text::print(b"\n");
         }
         CountAnswer::Count(n) => print_row(schema, row, n, words),
     }
@@ -128,22 +128,22 @@ fn question(words: &[u8], schema: &[u8], row: &[u8]) {
 
 // A line that starts with # is printed; any other is a name, a colon and a question.
 fn show_line(line: &[u8]) {
-    if vector_lines::comment(line) {
+    if vector_text::comment(line) {
         return;
     }
-    let words = vector_lines::after(line, b':');
-    vector_lines::print(vector_lines::before(line, b':'));
+    let words = vector_text::after(line, b':');
+    vector_text::print(vector_text::before(line, b':'));
     let mut schema = [0u8; 256];
-    let n = vector_lines::decode(vector_lines::word(words, 1), &mut schema);
+    let n = vector_text::decode(vector_text::word(words, 1), &mut schema);
     let mut row = [0u8; 256];
-    let m = vector_lines::decode(vector_lines::word(words, 3), &mut row);
+    let m = vector_text::decode(vector_text::word(words, 3), &mut row);
     question(words, &schema[..n], &row[..m]);
 }
 
 fn show_lines(text: &[u8]) {
     let mut at: usize = 0;
     while at < text.len() {
-        let end = vector_lines::find(text, at, b'\n');
+        let end = vector_text::find(text, at, b'\n');
         show_line(&text[at..end]);
         at = end + 1;
     }

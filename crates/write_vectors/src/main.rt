@@ -11,12 +11,12 @@ use libc::STDIN_FILENO;
 // Prints an answer and the output.
 fn print_written(answer: Written, out: &[u8]) {
     match answer {
-        Written::Refused(n) => vector_lines::print_after(b"refused ", n as u64),
-        Written::Length(n) => vector_lines::print_after(b"length ", n as u64),
+        Written::Refused(n) => vector_text::print_after(b"refused ", n as u64),
+        Written::Length(n) => vector_text::print_after(b"length ", n as u64),
     }
-    vector_lines::print(b": ");
-    vector_lines::print_bytes(out);
-    vector_lines::print(b"\n");
+    vector_text::print(b": ");
+    vector_text::print_bytes(out);
+    vector_text::print(b"\n");
 }
 
 // Puts the numbers of the words from word 4 on into the list, as many as it takes, and says how many.
@@ -25,11 +25,11 @@ fn numbers(words: &[u8], list: &mut [u32]) -> usize
 {
     let mut n: usize = 0;
     while n < list.len() {
-        let w = vector_lines::word(words, n + 4);
+        let w = vector_text::word(words, n + 4);
         if w.len() == 0 {
             return n;
         }
-        list[n] = vector_lines::small(w);
+        list[n] = vector_text::small(w);
         n += 1;
     }
     n
@@ -63,7 +63,7 @@ fn rewrite(s: &[u8], out: &mut [u8]) {
             if next.finished {
                 write_first(&list, given, out);
             } else {
-                vector_lines::print(b"over 256 members\n");
+                vector_text::print(b"over 256 members\n");
             }
         }
     }
@@ -71,15 +71,15 @@ fn rewrite(s: &[u8], out: &mut [u8]) {
 
 // Combines two bitmaps.
 fn combine(name: &[u8], a: &[u8], b: &[u8], out: &mut [u8]) {
-    if vector_lines::starts(name, b'u') {
+    if vector_text::starts(name, b'u') {
         print_written(bitmap_combine::union(a, b, out), out);
         return;
     }
-    if vector_lines::starts(name, b'i') {
+    if vector_text::starts(name, b'i') {
         print_written(bitmap_combine::intersection(a, b, out), out);
         return;
     }
-    if vector_lines::starts(name, b'd') {
+    if vector_text::starts(name, b'd') {
         print_written(bitmap_combine::difference(a, b, out), out);
         return;
     }
@@ -88,12 +88,12 @@ fn combine(name: &[u8], a: &[u8], b: &[u8], out: &mut [u8]) {
 
 // `write, room N, set` and numbers; `rewrite, room N, bitmap B`; or the name of an operation and `room N, first A, second B`.
 fn call(words: &[u8], a: &[u8], b: &[u8], out: &mut [u8]) {
-    let name = vector_lines::word(words, 0);
-    if vector_lines::starts(name, b'w') {
+    let name = vector_text::word(words, 0);
+    if vector_text::starts(name, b'w') {
         write(words, out);
         return;
     }
-    if vector_lines::starts(name, b'r') {
+    if vector_text::starts(name, b'r') {
         rewrite(a, out);
         return;
     }
@@ -102,17 +102,17 @@ fn call(words: &[u8], a: &[u8], b: &[u8], out: &mut [u8]) {
 
 // A line that starts with # is printed; any other is a call.
 fn show_line(line: &[u8]) {
-    if vector_lines::comment(line) {
+    if vector_text::comment(line) {
         return;
     }
-    let room = vector_lines::small(vector_lines::word(line, 2)) as usize;
+    let room = vector_text::small(vector_text::word(line, 2)) as usize;
     if 256 < room {
         return;
     }
     let mut first = [0u8; 256];
-    let n = vector_lines::decode(vector_lines::word(line, 4), &mut first);
+    let n = vector_text::decode(vector_text::word(line, 4), &mut first);
     let mut second = [0u8; 256];
-    let m = vector_lines::decode(vector_lines::word(line, 6), &mut second);
+    let m = vector_text::decode(vector_text::word(line, 6), &mut second);
     let mut out = [0xAAu8; 256];
     call(line, &first[..n], &second[..m], &mut out[..room]);
 }
@@ -120,7 +120,7 @@ fn show_line(line: &[u8]) {
 fn show_lines(text: &[u8]) {
     let mut at: usize = 0;
     while at < text.len() {
-        let end = vector_lines::find(text, at, b'\n');
+        let end = vector_text::find(text, at, b'\n');
         show_line(&text[at..end]);
         at = end + 1;
     }

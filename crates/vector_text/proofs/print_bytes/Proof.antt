@@ -3,8 +3,8 @@
 use borrow.Author.Needs.{needs}
 use Prim.Native.Nat.{_-_, _≤_}
 use lib.ListN.{length}
-use Rattle.vector_lines.proofs.print_bytes.Statement.{statement}
-use Rattle.vector_lines.proofs.print_bytes.Tie as tie
+use Rattle.vector_text.proofs.print_bytes.Statement.{statement}
+use Rattle.vector_text.proofs.print_bytes.Tie as tie
 
 abbrev Inv-loop : tie.InvT-loop
 Inv-loop s i₀ i = i ≤ length s

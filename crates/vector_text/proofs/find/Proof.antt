@@ -3,8 +3,8 @@
 use borrow.Author.Needs.{needs}
 use Prim.Native.Nat.{_-_, _≤_}
 use lib.ListN.{length}
-use Rattle.vector_lines.proofs.find.Statement.{statement}
-use Rattle.vector_lines.proofs.find.Tie as tie
+use Rattle.vector_text.proofs.find.Statement.{statement}
+use Rattle.vector_text.proofs.find.Tie as tie
 
 abbrev Inv-loop : tie.InvT-loop
 Inv-loop text from c i₀ i = (from ≤ i) × (i ≤ length text)

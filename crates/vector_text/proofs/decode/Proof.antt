@@ -5,8 +5,8 @@ use borrow.Author.Needs.{needs}
 use mathlib.Core.Path.{_≡_, _∙_}
 use Prim.Native.Nat.{_-_, _*_, _≤_}
 use native.Mathlib.Omega.{arith}
-use Rattle.vector_lines.proofs.decode.Statement.{statement}
-use Rattle.vector_lines.proofs.decode.Tie as tie
+use Rattle.vector_text.proofs.decode.Statement.{statement}
+use Rattle.vector_text.proofs.decode.Tie as tie
 
 abbrev Inv-loop : tie.InvT-loop
 Inv-loop digits out₀ pairs n₀ out n = (n ≤ pairs) × (pairs * 2 ≤ length digits) × (length out ≡ length out₀) × (n ≤ length out)

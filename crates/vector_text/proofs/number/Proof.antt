@@ -3,8 +3,8 @@
 use borrow.Author.Needs.{needs}
 use Prim.Native.Nat.{_-_, _≤_, _<_}
 use lib.ListN.{length}
-use Rattle.vector_lines.proofs.number.Statement.{statement}
-use Rattle.vector_lines.proofs.number.Tie as tie
+use Rattle.vector_text.proofs.number.Statement.{statement}
+use Rattle.vector_text.proofs.number.Tie as tie
 
 abbrev Inv-loop : tie.InvT-loop
 Inv-loop digits n₀ i₀ n i = (i ≤ length digits) × (n < 10000000000000000000)

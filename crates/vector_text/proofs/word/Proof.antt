@@ -3,8 +3,8 @@
 use borrow.Author.Needs.{needs}
 use Prim.Native.Nat.{_-_, _≤_}
 use lib.ListN.{length}
-use Rattle.vector_lines.proofs.word.Statement.{statement}
-use Rattle.vector_lines.proofs.word.Tie as tie
+use Rattle.vector_text.proofs.word.Statement.{statement}
+use Rattle.vector_text.proofs.word.Tie as tie
 
 abbrev Inv-loop : tie.InvT-loop
 Inv-loop line k start₀ i₀ start i = (start ≤ length line) × (i ≤ k)

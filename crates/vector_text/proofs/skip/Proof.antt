@@ -3,8 +3,8 @@
 use borrow.Author.Needs.{needs}
 use Prim.Native.Nat.{_-_, _≤_}
 use lib.ListN.{length}
-use Rattle.vector_lines.proofs.skip.Statement.{statement}
-use Rattle.vector_lines.proofs.skip.Tie as tie
+use Rattle.vector_text.proofs.skip.Statement.{statement}
+use Rattle.vector_text.proofs.skip.Tie as tie
 
 abbrev Inv-loop : tie.InvT-loop
 Inv-loop line from gaps i₀ i = (from ≤ i) × (i ≤ length line)

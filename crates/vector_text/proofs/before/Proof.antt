@@ -3,8 +3,8 @@
 use mathlib.Core.Path.{sym}
 use lib.Seq.{length-take-le}
 use borrow.Author.Needs.{needs}
-use Rattle.vector_lines.proofs.before.Statement.{statement}
-use Rattle.vector_lines.proofs.before.Tie as tie
+use Rattle.vector_text.proofs.before.Statement.{statement}
+use Rattle.vector_text.proofs.before.Tie as tie
 
 find-requires : tie.Need-find-requires
 find-requires c κs = search needs
