@@ -121,8 +121,9 @@ pub fn put_chunk(ds: &[u8], out: &mut [u8], at: usize) -> usize
     let m = width_choice::least_of(ds);
     let mut a = [0u8; 256];
     let n = chunk_parts::less(ds, m, &mut a);
-    let ws = width_choice::widths_of(ds, m);
-    put_values(&a[..n], &ws[..n], m, out, at)
+    let mut ws = [0u8; 256];
+    let k = width_choice::widths_of(ds, m, &mut ws);
+    put_values(&a[..n], &ws[..k], m, out, at)
 }
 
 // How many bytes a chunk of these descriptors takes.
@@ -131,7 +132,7 @@ pub fn chunk_size(ds: &[u8]) -> usize
     ensures { λ r. ⌜ (r ≡ length (writeChunk (now (ds .entry)))) × (r ≤ 195) ⌝ }
 {
     let m = width_choice::least_of(ds);
-    let ws = width_choice::widths_of(ds, m);
-    let n = ds.len();
+    let mut ws = [0u8; 256];
+    let n = width_choice::widths_of(ds, m, &mut ws);
     widths_size(&ws[..n])
 }

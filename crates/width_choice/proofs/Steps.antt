@@ -2,15 +2,15 @@
 -- Assumes nothing.
 use mathlib.Core.Path.{_≡_, refl, sym, ap, ap₂, _∙_}
 use mathlib.Core.Bool.{Bool, true, false}
-use mathlib.Core.List.{List, [], _∷_, _++_, map, map-append}
+use mathlib.Core.List.{List, [], _∷_, _++_, map}
 use Prim.Native.Nat.{ℕ, zero, suc, _+_, _-_, _*_, _/_, _%_, _^_, _≤_, _<_, min, max}
 use native.Mathlib.Nat.{add-zero, zero-add, not-suc-le-zero, suc-add, add-suc, add-assoc}
 use native.Mathlib.Numerals.{add-one}
 use native.Mathlib.Omega.{arith}
 use borrow.Author.Tests.{lt-ltb, le-ltb}
 use lib.Dec.{ltb}
-use lib.ListN.{length, getD, set, take, drop, drop-of-length-le}
-use lib.Seq.{drop-cons, take-suc, take-suc-set}
+use lib.ListN.{length, getD, take, drop, drop-of-length-le}
+use lib.Seq.{drop-cons}
 use Rattle.common.specs.Lists.{keep}
 use Rattle.common.specs.Bytes.{ceil8}
 use Rattle.common.specs.Outcome.{pick}
@@ -97,9 +97,3 @@ cheapest-stop vs b (suc k) h =
     let e = cheapest-stop vs b k h in
     let g : cost vs (cheapest vs (b + k)) ≤ cost vs (b + k + 1) = rw e (omega (arith, cost-from vs (b + k + 1))) in
     rw (← add-one k, ← add-assoc b k 1) (cheapest-off vs (b + k) g ∙ e)
-
--- one width more
-pub widths-turn : (f : ℕ → ℕ) (ds ws : List ℕ) (i x : ℕ) → i < length ds → i < length ws → x ≡ f (getD ds i 0)
-    → take i ws ≡ map f (take i ds) → take (i + 1) (set ws i x) ≡ map f (take (i + 1) ds)
-widths-turn f ds ws i x h room e q =
-    rw (add-one i, take-suc-set ws i x room, take-suc ds i 0 h, map-append f (take i ds) (getD ds i 0 ∷ []), e, q)

@@ -2,8 +2,9 @@
 ghost use mathlib.Core.Path.{_≡_};
 ghost use mathlib.Core.List.{List, map};
 ghost use Prim.Native.Nat.{ℕ, _+_, _-_, _*_, _≤_, _<_};
-ghost use lib.ListN.{length, getD, take};
+ghost use lib.ListN.{length, getD};
 ghost use Rattle.bitmap_spec.specs.Form.{width, least, largest, cost, cheapest};
+ghost use Rattle.bitmap_spec.specs.Output.{written};
 ghost use Rattle.width_choice.specs.Over.{over};
 
 // The fewest bits that hold v.
@@ -13,18 +14,17 @@ fn width_of(v: u8) -> u8
     (8 - u8::leading_zeros(v)) as u8
 }
 
-// The width of each descriptor less m, and 0 behind them: each width once, so that counting those over b is a loop over bytes.
-pub fn widths_of(ds: &[u8], m: u8) -> [u8; 256]
-    requires { ⌜ (length (now ds) ≤ 256) × ((i : ℕ) → i < length (now ds) → m ≤ getD (now ds) i 0) ⌝ }
-    ensures { λ r. ⌜ (length r ≡ 256) × (take (length (now (ds .entry))) r ≡ map width (map (λ d. d - m) (now (ds .entry)))) ⌝ }
+// The width of each descriptor less m: each width once, so that counting those over b is a loop over bytes.
+pub fn widths_of(ds: &[u8], m: u8, ws: &mut [u8]) -> usize
+    requires { ⌜ (length (now ds) ≤ length (now ws)) × ((i : ℕ) → i < length (now ds) → m ≤ getD (now ds) i 0) ⌝ }
+    ensures { λ r. ⌜ (r ≡ length (now (ds .entry))) × (now (ws .exit) ≡ written (now (ws .entry)) 0 (map width (map (λ d. d - m) (now (ds .entry))))) ⌝ }
 {
-    let mut ws = [0u8; 256];
     let mut i: usize = 0;
     while i < ds.len() {
         ws[i] = width_of(ds[i] - m);
         i += 1;
     }
-    ws
+    i
 }
 
 // The least of the values.

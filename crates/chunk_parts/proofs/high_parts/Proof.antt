@@ -4,7 +4,7 @@ use mathlib.Core.List.{map}
 use Prim.Native.Nat.{_/_, _^_, ℕ, zero, suc, _+_, _-_, _*_, _≤_, _<_}
 use lib.ListN.{take, length-set, length, getD}
 use Rattle.bitmap_spec.specs.Output.{written}
-use Rattle.chunk_parts.proofs.Turns.{map-start, front-turn, map-end}
+use Rattle.width_choice.proofs.Mapping.{map-start, front-turn, map-end}
 use borrow.Author.Needs.{needs}
 use mathlib.Core.Path.{_≡_, refl, sym, ap, _∙_}
 use native.Mathlib.Omega.{arith}

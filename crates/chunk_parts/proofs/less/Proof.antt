@@ -4,7 +4,7 @@ use mathlib.Core.List.{map}
 use lib.ListN.{length-set, take}
 use Rattle.bitmap_spec.specs.Output.{written}
 use Rattle.bitmap_laws.proofs.Output.{written-none}
-use Rattle.chunk_parts.proofs.Turns.{front-turn, map-end}
+use Rattle.width_choice.proofs.Mapping.{front-turn, map-end}
 use Rattle.chunk_parts.proofs.less.Statement.{statement}
 use mathlib.Core.Path.{_≡_, refl, _∙_}
 use Prim.Native.Nat.{_-_, _≤_}
