@@ -6,6 +6,7 @@ use crate::generate::Random;
 mod combine;
 #[cfg(feature = "croaring")]
 mod croaring;
+mod earlier;
 #[cfg(feature = "read")]
 mod read;
 #[cfg(any(feature = "rows", feature = "buckets"))]
@@ -19,8 +20,19 @@ pub struct Line {
     pub input: String,
     pub library: f64,
     pub reference: f64,
+    /// The library's time by the second program's.
     pub ratio: f64,
+    pub earlier: Option<Earlier>,
     pub roaring: Option<f64>,
+}
+
+/// The same call of an earlier library.
+pub struct Earlier {
+    pub time: f64,
+    /// Its time by the second program's.
+    pub ratio: f64,
+    /// The library's time by its time.
+    pub change: f64,
 }
 
 type Print<'a> = &'a mut dyn FnMut(Line);
@@ -44,6 +56,9 @@ pub fn groups() -> Vec<fn(Print)> {
 const RUNS: usize = 41;
 /// Seconds that a run takes at least.
 const RUN: f64 = 0.002;
+/// A call of more seconds is slow, and has fewer runs.
+const SLOW: f64 = 0.1;
+const SLOW_RUNS: usize = 5;
 
 #[repr(C)]
 struct TimeSpec {
@@ -88,32 +103,61 @@ fn median(mut values: Vec<f64>) -> f64 {
     values[values.len() / 2]
 }
 
-/// Measures both sides by turns, and which one begins by turns too.
-fn measure(
+/// A call of the library, and the same of an earlier one, if BV_BEFORE names a shared object of it.
+struct Sides<C> {
+    now: C,
+    before: Option<C>,
+}
+
+impl<C: Copy> Sides<C> {
+    fn of(now: C, name: &str) -> Sides<C> {
+        Sides { now, before: earlier::call(name) }
+    }
+}
+
+/// Measures all sides by turns, and which one begins by turns too.
+fn measure<C: Copy>(
     call: &str,
     input: &str,
-    library: &mut dyn FnMut(),
+    sides: Sides<C>,
+    library: &mut dyn FnMut(C),
     reference: &mut dyn FnMut(),
 ) -> Line {
-    let library_calls = calls(library);
-    let reference_calls = calls(reference);
-    let slow = once(1, reference) > 0.1 || once(1, library) > 0.1;
-    let mut pairs = Vec::new();
-    for run in 0..if slow { 5 } else { RUNS } {
-        if run % 2 == 0 {
-            let first = once(library_calls, library);
-            pairs.push((first, once(reference_calls, reference)));
-        } else {
-            let first = once(reference_calls, reference);
-            pairs.push((once(library_calls, library), first));
+    let mut tasks =
+        vec![(calls(reference), None), (calls(&mut || library(sides.now)), Some(sides.now))];
+    if let Some(before) = sides.before {
+        tasks.push((calls(&mut || library(before)), Some(before)));
+    }
+    let mut times = vec![Vec::new(); tasks.len()];
+    let mut slow = false;
+    for run in 0..RUNS {
+        if slow && run == SLOW_RUNS {
+            break;
+        }
+        for turn in 0..tasks.len() {
+            let task = (turn + run) % tasks.len();
+            let (count, side) = tasks[task];
+            let time = match side {
+                Some(side) => once(count, &mut || library(side)),
+                None => once(count, reference),
+            };
+            slow |= time > SLOW;
+            times[task].push(time);
         }
     }
+    let ratio =
+        |a: usize, b: usize| median(times[a].iter().zip(&times[b]).map(|(a, b)| a / b).collect());
     Line {
         call: call.to_string(),
         input: input.to_string(),
-        library: median(pairs.iter().map(|pair| pair.0).collect()),
-        reference: median(pairs.iter().map(|pair| pair.1).collect()),
-        ratio: median(pairs.iter().map(|pair| pair.0 / pair.1).collect()),
+        library: median(times[1].clone()),
+        reference: median(times[0].clone()),
+        ratio: ratio(1, 0),
+        earlier: sides.before.map(|_| Earlier {
+            time: median(times[2].clone()),
+            ratio: ratio(2, 0),
+            change: ratio(1, 2),
+        }),
         roaring: None,
     }
 }

@@ -57,6 +57,10 @@ const FAULTS: &[(&str, &[&str])] = &[
             "page-place-not-moved",
             "page-lists-when-finished",
             "page-mark-rewritten",
+            "count-three-words",
+            "count-third-word-twice",
+            "count-half-of-each-word",
+            "count-in-a-byte",
         ],
     ),
     (
@@ -115,6 +119,34 @@ fn refuse(number: u32) -> u32 {
     }
 }
 
+/// Wrong counts of a dense container's members.
+type Count = fn(&[u32]) -> usize;
+const COUNTS: [(&str, Count); 4] = [
+    ("count-three-words", |members| below(members, 192)),
+    ("count-third-word-twice", |members| 2 * below(members, 192) - below(members, 128)),
+    ("count-half-of-each-word", |members| members.iter().filter(|&&p| p % 64 < 32).count()),
+    ("count-in-a-byte", |members| members.len() % 256),
+];
+
+/// How many of a container's members lie below this place in it.
+fn below(members: &[u32], place: u32) -> usize {
+    members.iter().filter(|&&position| position % 256 < place).count()
+}
+
+/// What an accepted bitmap is refused for if a wrong count is planted.
+fn miscounted(bitmap: &bitmap::Bitmap) -> Option<u32> {
+    let (_, count) = COUNTS.iter().find(|(name, _)| planted(name))?;
+    let members = bitmap.members();
+    let containers = members.chunk_by(|a, b| a / 256 == b / 256);
+    let dense: Vec<&[u32]> = containers.filter(|container| container.len() >= 32).collect();
+    let counted: Vec<usize> = dense.iter().map(|container| count(container)).collect();
+    if counted.iter().any(|&count| count < 32) {
+        return Some(10);
+    }
+    let members: usize = dense.iter().map(|container| container.len()).sum();
+    (counted.iter().sum::<usize>() != members).then_some(11)
+}
+
 unsafe fn set<T>(output: *mut T, value: T) {
     output.write(value);
 }
@@ -136,6 +168,9 @@ where
     }
     match bitmap::Bitmap::judge(from_raw_parts(bytes, len)) {
         Ok(bitmap) => {
+            if let Some(number) = miscounted(&bitmap) {
+                return number;
+            }
             set(output, answer(bitmap));
             0
         }

@@ -2,10 +2,13 @@
 ghost use mathlib.Core.Path.{_≡_};
 ghost use Prim.Native.Nat.{_+_, _-_, _*_, _/_, _%_, _^_, _≤_, _<_};
 ghost use lib.ListN.{length};
+ghost use lib.Count.{ones};
+ghost use Rattle.common.specs.Bytes.{littleAt};
 ghost use Rattle.bitmap_spec.specs.Judge.{dense};
 ghost use Rattle.bitmap_spec.specs.Ask.{below};
 ghost use Rattle.bitmap_spec.specs.Bits.{bit, value};
 ghost use Rattle.bitmap_spec.proofs.Tally.{tally};
+use words::low_word;
 
 // How many bits are set in the n bytes from `at` on.
 fn ones_of(s: &[u8], at: usize, n: usize) -> u32
@@ -21,12 +24,21 @@ fn ones_of(s: &[u8], at: usize, n: usize) -> u32
     ones
 }
 
-// How many members the dense container at byte `at` has, counted from the bits.
+// How many bits are set in the word of the eight bytes from `at` on.
+fn word_ones(s: &[u8], at: usize) -> u32
+    requires { ⌜ at + 8 ≤ length (now s) ⌝ }
+    ensures { λ r. ⌜ (r ≡ ones (littleAt (now (s .entry)) at 8)) × (r ≤ 64) ⌝ }
+{
+    u64::count_ones(low_word(s, at))
+}
+
+// How many members the dense container at byte `at` has, counted from the bits: the ones of its four words. A sum does
+// not see the order of the bits, so the words are low byte first, which is faster.
 pub fn dense_count(s: &[u8], at: usize) -> u32
     requires { ⌜ at + 32 ≤ length (now s) ⌝ }
     ensures { λ r. ⌜ r ≡ length (dense (now (s .entry)) at) ⌝ }
 {
-    ones_of(s, at, 32)
+    word_ones(s, at) + word_ones(s, at + 8) + word_ones(s, at + 16) + word_ones(s, at + 24)
 }
 
 // How many members of the dense container at byte `at` lie below j: the set bits before bit j.

@@ -1,6 +1,6 @@
 //! The four set operations, bytes to bytes.
 
-use super::{form, measure, random_set, Line, Print};
+use super::{form, measure, random_set, Line, Print, Sides};
 use crate::ffi::combine::{call, Call};
 use crate::generate::Random;
 use crate::reference::bitmap::{self as reference, Operation, OPERATIONS};
@@ -26,13 +26,14 @@ pub fn run(print: Print) {
 
 fn line(operation: Operation, name: &str, first: &[u32], second: &[u32]) -> Line {
     let (a, b) = (form(first), form(second));
-    let call = call(operation);
+    let sides = Sides::of(call(operation), symbol(operation));
     let (mut out, mut expected) = (vec![0; 267_366], vec![0; 267_366]);
     #[allow(unused_mut)]
     let mut line = measure(
         &format!("{operation:?}"),
         name,
-        &mut || combine(call, &a, &b, &mut out),
+        sides,
+        &mut |call| combine(call, &a, &b, &mut out),
         &mut || {
             black_box(reference::combine(operation, &a, &b, &mut expected)).ok();
         },
@@ -43,6 +44,15 @@ fn line(operation: Operation, name: &str, first: &[u32], second: &[u32]) -> Line
         line.roaring = Some(super::croaring::measure(operation, first, second));
     }
     line
+}
+
+fn symbol(operation: Operation) -> &'static str {
+    match operation {
+        Operation::Union => "bv_bitmap_union",
+        Operation::Intersection => "bv_bitmap_intersection",
+        Operation::Difference => "bv_bitmap_difference",
+        Operation::SymmetricDifference => "bv_bitmap_symmetric_difference",
+    }
 }
 
 fn combine(call: Call, a: &[u8], b: &[u8], out: &mut [u8]) {

@@ -1,26 +1,37 @@
 //! Check, probe, rank and a full listing.
 
-use super::{bitmaps, form, measure, Print};
+use super::{bitmaps, form, measure, Print, Sides};
 use crate::ffi::read::{bv_bitmap_check, bv_bitmap_page, bv_bitmap_probe, bv_bitmap_rank};
 use crate::reference::bitmap as reference;
 use std::hint::black_box;
+
+type Check = unsafe extern "C" fn(*const u8, usize, *mut u32) -> u32;
+type Probe = unsafe extern "C" fn(*const u8, usize, u32, *mut u8) -> u32;
+type Rank = unsafe extern "C" fn(*const u8, usize, u32, *mut u32) -> u32;
+type Page =
+    unsafe extern "C" fn(*const u8, usize, *mut u32, *mut u8, *mut u32, usize, *mut u32) -> u32;
 
 pub fn run(print: Print) {
     for (name, set) in bitmaps() {
         let bytes = form(&set);
         let bytes = bytes.as_slice();
-        print(measure("check", name, &mut || check(bytes), &mut || {
+        let sides = Sides::of(bv_bitmap_check as Check, "bv_bitmap_check");
+        print(measure("check", name, sides, &mut |call| check(call, bytes), &mut || {
             black_box(reference::check(black_box(bytes))).ok();
         }));
         let position = set[set.len() / 2];
-        print(measure("probe", name, &mut || probe(bytes, position), &mut || {
+        let sides = Sides::of(bv_bitmap_probe as Probe, "bv_bitmap_probe");
+        print(measure("probe", name, sides, &mut |call| probe(call, bytes, position), &mut || {
             black_box(reference::probe(black_box(bytes), position)).ok();
         }));
-        print(measure("rank", name, &mut || rank(bytes, position), &mut || {
+        let sides = Sides::of(bv_bitmap_rank as Rank, "bv_bitmap_rank");
+        print(measure("rank", name, sides, &mut |call| rank(call, bytes, position), &mut || {
             black_box(reference::rank(black_box(bytes), position)).ok();
         }));
         let (mut first, mut second) = (vec![0; set.len()], vec![0; set.len()]);
-        print(measure("full listing", name, &mut || list(bytes, &mut first), &mut || {
+        let sides = Sides::of(bv_bitmap_page as Page, "bv_bitmap_page");
+        let listing = &mut |call| list(call, bytes, &mut first);
+        print(measure("full listing", name, sides, listing, &mut || {
             black_box(reference::page(black_box(bytes), 0, false, &mut second)).ok();
         }));
         assert_eq!(first, set);
@@ -28,28 +39,28 @@ pub fn run(print: Print) {
     }
 }
 
-fn check(bytes: &[u8]) {
+fn check(call: Check, bytes: &[u8]) {
     let mut cardinality = 0;
-    let code = unsafe { bv_bitmap_check(bytes.as_ptr(), bytes.len(), &mut cardinality) };
+    let code = unsafe { call(bytes.as_ptr(), bytes.len(), &mut cardinality) };
     black_box((code, cardinality));
 }
 
-fn probe(bytes: &[u8], position: u32) {
+fn probe(call: Probe, bytes: &[u8], position: u32) {
     let mut member = 0;
-    let code = unsafe { bv_bitmap_probe(bytes.as_ptr(), bytes.len(), position, &mut member) };
+    let code = unsafe { call(bytes.as_ptr(), bytes.len(), position, &mut member) };
     black_box((code, member));
 }
 
-fn rank(bytes: &[u8], position: u32) {
+fn rank(call: Rank, bytes: &[u8], position: u32) {
     let mut below = 0;
-    let code = unsafe { bv_bitmap_rank(bytes.as_ptr(), bytes.len(), position, &mut below) };
+    let code = unsafe { call(bytes.as_ptr(), bytes.len(), position, &mut below) };
     black_box((code, below));
 }
 
-fn list(bytes: &[u8], list: &mut [u32]) {
+fn list(call: Page, bytes: &[u8], list: &mut [u32]) {
     let (mut place, mut finished, mut given) = (0, 0, 0);
     let code = unsafe {
-        bv_bitmap_page(
+        call(
             bytes.as_ptr(),
             bytes.len(),
             &mut place,

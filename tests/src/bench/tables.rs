@@ -1,12 +1,48 @@
 //! Judging large row blocks and buckets, and asking for every field of small ones.
 
-use super::{measure, Print};
+use super::{measure, Print, Sides};
 use crate::ffi::Field;
 use crate::generate::schema::schema_bytes;
 use crate::generate::Random;
 use crate::reference::schema::{Column, Type};
 use crate::reference::MAX_BYTES;
 use std::hint::black_box;
+
+#[cfg(feature = "rows")]
+type BlockCheck = unsafe extern "C" fn(*const u8, usize, *const u8, usize, *mut u32) -> u32;
+#[cfg(feature = "rows")]
+type BlockField = unsafe extern "C" fn(
+    *const u8,
+    usize,
+    *const u8,
+    usize,
+    u32,
+    u32,
+    *mut u8,
+    *mut i64,
+    *mut u64,
+    *mut u32,
+    *mut usize,
+    *mut usize,
+) -> u32;
+#[cfg(feature = "buckets")]
+type BucketCheck = unsafe extern "C" fn(*const u8, usize, u32, *const u8, usize) -> u32;
+#[cfg(feature = "buckets")]
+type BucketField = unsafe extern "C" fn(
+    *const u8,
+    usize,
+    u32,
+    *const u8,
+    usize,
+    u32,
+    u32,
+    *mut u8,
+    *mut i64,
+    *mut u64,
+    *mut u32,
+    *mut usize,
+    *mut usize,
+) -> u32;
 
 /// Columns of all types, every second one nullable.
 fn mixed_columns(count: usize) -> Vec<Column> {
@@ -47,6 +83,7 @@ fn empty_field() -> Field {
 
 #[cfg(feature = "rows")]
 pub fn run_rows(print: Print) {
+    use crate::ffi::rows::{bv_block_check, bv_block_field};
     use crate::generate::rows::filled;
     use crate::reference::rows as reference;
 
@@ -56,25 +93,28 @@ pub fn run_rows(print: Print) {
     let large = filled(&mut random, &columns, MAX_BYTES, 65_536);
     let rows = reference::check(&schema, &large).expect("a sound block");
     let input = describe(large.len(), rows, columns.len());
-    print(measure("block check", &input, &mut || block_check(&schema, &large), &mut || {
+    let sides = Sides::of(bv_block_check as BlockCheck, "bv_block_check");
+    let checking = &mut |call| block_check(call, &schema, &large);
+    print(measure("block check", &input, sides, checking, &mut || {
         black_box(reference::check(&schema, black_box(&large))).ok();
     }));
     let small = filled(&mut random, &columns, 65_536, 65_536);
     let rows = reference::check(&schema, &small).expect("a sound block");
     let input = describe(small.len(), rows, columns.len());
     let fields = columns.len() as u32;
-    let library = |row, column| block_field(&schema, &small, row, column);
     let second = |row, column| reference::field(&schema, &small, row, column).map(Field::from);
     print(measure(
         "block field, every one",
         &input,
-        &mut || ask_all(rows, fields, &library),
+        Sides::of(bv_block_field as BlockField, "bv_block_field"),
+        &mut |call| ask_all(rows, fields, &|r, c| block_field(call, &schema, &small, r, c)),
         &mut || ask_all(rows, fields, &|row, column| second(row, column).ok()),
     ));
 }
 
 #[cfg(feature = "buckets")]
 pub fn run_buckets(print: Print) {
+    use crate::ffi::buckets::{bv_bucket_check, bv_bucket_field};
     use crate::generate::buckets::{filled, ALL_NULL, CONST, DICT, PLAIN};
     use crate::reference::buckets as reference;
 
@@ -93,7 +133,8 @@ pub fn run_buckets(print: Print) {
     print(measure(
         "bucket check",
         &input,
-        &mut || bucket_check(&schema, rows, &large),
+        Sides::of(bv_bucket_check as BucketCheck, "bv_bucket_check"),
+        &mut |call| bucket_check(call, &schema, rows, &large),
         &mut || {
             black_box(reference::check(&schema, rows, black_box(&large))).ok();
         },
@@ -103,12 +144,12 @@ pub fn run_buckets(print: Print) {
     let small = filled(&mut random, &columns, rows as usize, &tags);
     let input = describe(small.len(), rows, columns.len());
     let fields = columns.len() as u32;
-    let library = |row, column| bucket_field(&schema, rows, &small, row, column);
     let second = |row, column| reference::field(&schema, rows, &small, row, column).ok();
     print(measure(
         "bucket field, every one",
         &input,
-        &mut || ask_all(rows, fields, &library),
+        Sides::of(bv_bucket_field as BucketField, "bv_bucket_field"),
+        &mut |call| ask_all(rows, fields, &|r, c| bucket_field(call, &schema, rows, &small, r, c)),
         &mut || ask_all(rows, fields, &|row, column| second(row, column).map(Field::from)),
     ));
 }
@@ -122,25 +163,24 @@ fn ask_all(rows: u32, columns: u32, ask: &dyn Fn(u32, u32) -> Option<Field>) {
 }
 
 #[cfg(feature = "rows")]
-fn block_check(schema: &[u8], block: &[u8]) {
+fn block_check(call: BlockCheck, schema: &[u8], block: &[u8]) {
     let mut rows = 0;
-    let code = unsafe {
-        crate::ffi::rows::bv_block_check(
-            schema.as_ptr(),
-            schema.len(),
-            block.as_ptr(),
-            block.len(),
-            &mut rows,
-        )
-    };
+    let code =
+        unsafe { call(schema.as_ptr(), schema.len(), block.as_ptr(), block.len(), &mut rows) };
     black_box((code, rows));
 }
 
 #[cfg(feature = "rows")]
-fn block_field(schema: &[u8], block: &[u8], row: u32, column: u32) -> Option<Field> {
+fn block_field(
+    call: BlockField,
+    schema: &[u8],
+    block: &[u8],
+    row: u32,
+    column: u32,
+) -> Option<Field> {
     let mut to = empty_field();
     let code = unsafe {
-        crate::ffi::rows::bv_block_field(
+        call(
             schema.as_ptr(),
             schema.len(),
             block.as_ptr(),
@@ -159,24 +199,23 @@ fn block_field(schema: &[u8], block: &[u8], row: u32, column: u32) -> Option<Fie
 }
 
 #[cfg(feature = "buckets")]
-fn bucket_check(schema: &[u8], rows: u32, bucket: &[u8]) {
-    let code = unsafe {
-        crate::ffi::buckets::bv_bucket_check(
-            schema.as_ptr(),
-            schema.len(),
-            rows,
-            bucket.as_ptr(),
-            bucket.len(),
-        )
-    };
+fn bucket_check(call: BucketCheck, schema: &[u8], rows: u32, bucket: &[u8]) {
+    let code = unsafe { call(schema.as_ptr(), schema.len(), rows, bucket.as_ptr(), bucket.len()) };
     black_box(code);
 }
 
 #[cfg(feature = "buckets")]
-fn bucket_field(schema: &[u8], rows: u32, bucket: &[u8], row: u32, column: u32) -> Option<Field> {
+fn bucket_field(
+    call: BucketField,
+    schema: &[u8],
+    rows: u32,
+    bucket: &[u8],
+    row: u32,
+    column: u32,
+) -> Option<Field> {
     let mut to = empty_field();
     let code = unsafe {
-        crate::ffi::buckets::bv_bucket_field(
+        call(
             schema.as_ptr(),
             schema.len(),
             rows,

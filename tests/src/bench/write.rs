@@ -1,16 +1,20 @@
 //! Writing lists of positions.
 
-use super::{bitmaps, form, measure, Print};
+use super::{bitmaps, form, measure, Print, Sides};
 use crate::ffi::write::bv_bitmap_write;
 use crate::reference::bitmap as reference;
 use std::hint::black_box;
+
+type Write = unsafe extern "C" fn(*const u32, usize, *mut u8, usize, *mut usize) -> u32;
 
 pub fn run(print: Print) {
     let full = ("full, 2,097,152 members", (0..2_097_152).collect());
     for (name, set) in bitmaps().into_iter().chain([full]) {
         let expected = form(&set);
         let (mut first, mut second) = (vec![0; expected.len()], vec![0; expected.len()]);
-        print(measure("write", name, &mut || write(&set, &mut first), &mut || {
+        let sides = Sides::of(bv_bitmap_write as Write, "bv_bitmap_write");
+        let writing = &mut |call| write(call, &set, &mut first);
+        print(measure("write", name, sides, writing, &mut || {
             black_box(reference::write(black_box(&set), &mut second)).ok();
         }));
         assert_eq!(first, expected);
@@ -18,10 +22,8 @@ pub fn run(print: Print) {
     }
 }
 
-fn write(set: &[u32], out: &mut [u8]) {
+fn write(call: Write, set: &[u32], out: &mut [u8]) {
     let mut length = 0;
-    let code = unsafe {
-        bv_bitmap_write(set.as_ptr(), set.len(), out.as_mut_ptr(), out.len(), &mut length)
-    };
+    let code = unsafe { call(set.as_ptr(), set.len(), out.as_mut_ptr(), out.len(), &mut length) };
     black_box((code, length));
 }

@@ -15,14 +15,18 @@ fn time(seconds: f64) -> String {
 
 fn print(line: &Line) {
     let roaring = line.roaring.map_or("-".to_string(), time);
+    let earlier = line.earlier.as_ref().map_or(String::new(), |earlier| {
+        format!(" {} | {:.2} | {:.2} |", time(earlier.time), earlier.ratio, earlier.change)
+    });
     println!(
-        "| {} | {} | {} | {} | {:.2} | {} |",
+        "| {} | {} | {} | {} | {:.2} | {} |{}",
         line.call,
         line.input,
         time(line.library),
         time(line.reference),
         line.ratio,
-        roaring
+        roaring,
+        earlier
     );
 }
 
@@ -33,8 +37,14 @@ fn main() {
     println!("Output buffers are allocated beforehand and not cleared between calls.");
     println!("Ratio: the library's time by the second program's, under 1 is faster.");
     println!();
-    println!("| call | input | library | second program | ratio | CRoaring |");
-    println!("|---|---|---|---|---|---|");
+    let mut names = vec!["call", "input", "library", "second program", "ratio", "CRoaring"];
+    if std::env::var("BV_BEFORE").is_ok() {
+        println!("Before: an earlier library. Change: the library's time by the earlier one's.");
+        println!();
+        names.extend(["before", "ratio before", "change"]);
+    }
+    println!("| {} |", names.join(" | "));
+    println!("|{}", "---|".repeat(names.len()));
     for group in groups() {
         group(&mut |line| print(&line));
     }

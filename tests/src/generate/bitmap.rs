@@ -540,26 +540,58 @@ pub fn damaged_list(random: &mut Random, mut list: Vec<u32>) -> Vec<u32> {
     list
 }
 
-/// Bitmaps at the largest sizes, and one past them.
+/// Bitmaps at the largest sizes, and one past them; then dense containers counted to the bit.
 pub fn edge(number: u64) -> Option<Vec<u8>> {
     match number {
         0 => Some(longest()),
         1 => Some(empty_containers(8192)),
         2 => Some(empty_containers(8193)),
         3 => Some(full_bitmap([0x00, 0, 32], &[])),
+        _ => counted(number as usize - 4).map(|members| one_dense(&members)),
+    }
+}
+
+/// Members of a container, chosen so that a count of them that misses a bit, a byte, a word or half of
+/// one is seen: 32 from each place on, the last 31 of these, all but each place; a bit of each byte, and
+/// of all bytes but the last; a whole word, all.
+fn counted(number: usize) -> Option<Vec<u8>> {
+    let place = (number % 256) as u8;
+    let behind = (1..32).map(|step| place.wrapping_add(step));
+    let each_byte = |bit: u8, bytes: u8| (0..bytes).map(|byte| byte * 8 + bit).collect();
+    match (number / 256, place) {
+        (0, _) => Some(behind.chain([place]).collect()),
+        (1, _) => Some(behind.collect()),
+        (2, _) => Some((0..=255).filter(|&low| low != place).collect()),
+        (3, bit @ 0..=7) => Some(each_byte(bit, 32)),
+        (3, bit @ 8..=15) => Some(each_byte(bit - 8, 31)),
+        (3, word @ 16..=19) => Some((0..64).map(|low| (word - 16) * 64 + low).collect()),
+        (3, 20) => Some((0..=255).collect()),
         _ => None,
     }
 }
 
-/// Pairs of bitmaps at the largest sizes.
+/// A bitmap of one dense container, also where it has too few members.
+fn one_dense(members: &[u8]) -> Vec<u8> {
+    let mut out = vec![1, (members.len() % 256) as u8, (members.len() / 256) as u8, 0, 1, 0];
+    out.extend_from_slice(&[0, 0, 32]);
+    out.extend(dense(members));
+    out
+}
+
+/// Pairs of bitmaps at the largest sizes; then containers of the 32 members from each place on, against
+/// all places and against all but that one: 32 and 31 members are in both.
 pub fn edge_pair(number: u64) -> Option<(Vec<u8>, Vec<u8>)> {
     let full = || full_bitmap([0x00, 0, 32], &[]);
+    let counted_pair =
+        |first, second| Some((one_dense(&counted(first)?), one_dense(&counted(second)?)));
     match number {
         0 => Some((longest(), full())),
         1 => Some((longest(), empty_containers(8192))),
         2 => Some((empty_containers(8192), full())),
         3 => Some((empty_containers(8192), empty_containers(8192))),
         4 => Some((full(), empty_containers(8193))),
+        5..=260 => counted_pair(number as usize - 5, 3 * 256 + 20),
+        261..=516 => counted_pair(number as usize - 261, number as usize - 261 + 2 * 256),
         _ => None,
     }
 }
