@@ -2,6 +2,14 @@
 
 use crate::generate::Random;
 
+/// The sides of a call, which has the same name in every library.
+#[cfg_attr(not(feature = "standin"), allow(unused_macros))]
+macro_rules! sides {
+    ($call:ident as $type:ty) => {
+        $crate::bench::Sides::of($call as $type, stringify!($call))
+    };
+}
+
 #[cfg(feature = "combine")]
 mod combine;
 #[cfg(feature = "croaring")]
@@ -145,6 +153,8 @@ fn measure<C: Copy>(
             times[task].push(time);
         }
     }
+    // What the outputs then hold, which the callers look at, is the library's.
+    library(sides.now);
     let ratio =
         |a: usize, b: usize| median(times[a].iter().zip(&times[b]).map(|(a, b)| a / b).collect());
     Line {

@@ -2,7 +2,7 @@
 -- as many ones as the dense container of these bytes has members. Assumes nothing.
 use mathlib.Core.Path.{_≡_, refl, ap, _∙_}
 use mathlib.Core.List.{List}
-use Prim.Native.Nat.{ℕ, zero, suc, _+_, _*_, _<_}
+use Prim.Native.Nat.{ℕ, suc, _+_, _*_, _<_}
 use native.Mathlib.Omega.{arith}
 use lib.ListN.{length, getD}
 use lib.Count.{ones}
@@ -10,20 +10,20 @@ use Rattle.common.specs.Bytes.{littleAt}
 use Rattle.bitmap_spec.specs.Bits.{bit}
 use Rattle.bitmap_spec.specs.Judge.{dense}
 use Rattle.bitmap_spec.proofs.Tally.{tally, tally-cat, tally-byte, dense-length}
-use Rattle.words.proofs.Words.{ones-low}
+use Rattle.words.proofs.Words.{ones-bytes}
 
 module _ (s : List ℕ) (small : (k : ℕ) → getD s k 0 < 256) where
-  -- for any number of bytes: which end of a byte bits are counted from does not matter to their number
-  pub ones-tally-bytes : (at n : ℕ) → ones (littleAt s at n) ≡ tally (bit s) (at * 8) (n * 8)
-  unfolding littleAt tally ones
-  ones-tally-bytes at zero = refl
-  ones-tally-bytes at (suc n) =
+  -- the set bits of one byte more
+  more : (at n : ℕ) → tally (bit s) (at * 8) (suc n * 8) ≡ ones (getD s at 0) + tally (bit s) ((at + 1) * 8) (n * 8)
+  more at n =
       let bits : suc n * 8 ≡ 8 + n * 8 = omega arith in
       let next : (at + 1) * 8 ≡ at * 8 + 8 = omega arith in
-      let parts = ones-low (getD s at 0) (littleAt s (at + 1) n) (small at) in
-      let first = tally-byte s at (small at) in
-      let rest = ones-tally-bytes (at + 1) n ∙ ap (λ (p : ℕ). tally (bit s) p (n * 8)) next in
-      rw (bits, tally-cat (bit s) (at * 8) 8 (n * 8)) (omega (arith, parts, first, rest))
+      rw (bits, next) (omega (arith, tally-cat (bit s) (at * 8) 8 (n * 8), tally-byte s at (small at)))
+
+  -- for any number of bytes
+  pub ones-tally-bytes : (at n : ℕ) → ones (littleAt s at n) ≡ tally (bit s) (at * 8) (n * 8)
+  unfolding tally
+  ones-tally-bytes = ones-bytes s small (λ at n. tally (bit s) (at * 8) (n * 8)) (λ at. refl) more
 
   -- a word, by the place of its first bit
   word : (at p : ℕ) → at * 8 ≡ p → ones (littleAt s at 8) ≡ tally (bit s) p 64

@@ -1,8 +1,8 @@
 -- Numbers of several bytes, lowest first: eight bytes as one sum, and the ones of such a number byte by byte.
 -- Assumes nothing.
-use mathlib.Core.Path.{_≡_, _∙_}
+use mathlib.Core.Path.{_≡_, sym, _∙_}
 use mathlib.Core.List.{List}
-use Prim.Native.Nat.{ℕ, _+_, _*_, _^_, _<_}
+use Prim.Native.Nat.{ℕ, zero, suc, _+_, _*_, _^_, _<_}
 use native.Mathlib.Nat.{add-comm}
 use native.Mathlib.Omega.{arith}
 use lib.ListN.{getD}
@@ -29,3 +29,15 @@ pub ones-low : (b x : ℕ) → b < 256 → ones (b + 256 * x) ≡ ones b + ones 
 ones-low b x small =
     let swap : b + 256 * x ≡ x * 2 ^ 8 + b = omega arith in
     rw swap (ones-cat 8 x b small ∙ add-comm (ones x) (ones b))
+
+-- Which end bits are counted from is each format's own: every count that adds up byte by byte is the number of ones.
+-- count at n is the count of the n bytes from at on.
+module _ (s : List ℕ) (small : (k : ℕ) → getD s k 0 < 256) (count : ℕ → ℕ → ℕ)
+    (none : (at : ℕ) → count at 0 ≡ 0)
+    (more : (at n : ℕ) → count at (suc n) ≡ ones (getD s at 0) + count (at + 1) n) where
+  pub ones-bytes : (at n : ℕ) → ones (littleAt s at n) ≡ count at n
+  unfolding littleAt ones
+  ones-bytes at zero = sym (none at)
+  ones-bytes at (suc n) =
+      let parts = ones-low (getD s at 0) (littleAt s (at + 1) n) (small at) in
+      omega (arith, parts, ones-bytes (at + 1) n, more at n)

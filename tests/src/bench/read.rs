@@ -1,6 +1,6 @@
 //! Check, probe, rank and a full listing.
 
-use super::{bitmaps, form, measure, Print, Sides};
+use super::{bitmaps, form, measure, Print};
 use crate::ffi::read::{bv_bitmap_check, bv_bitmap_page, bv_bitmap_probe, bv_bitmap_rank};
 use crate::reference::bitmap as reference;
 use std::hint::black_box;
@@ -15,21 +15,21 @@ pub fn run(print: Print) {
     for (name, set) in bitmaps() {
         let bytes = form(&set);
         let bytes = bytes.as_slice();
-        let sides = Sides::of(bv_bitmap_check as Check, "bv_bitmap_check");
+        let sides = sides!(bv_bitmap_check as Check);
         print(measure("check", name, sides, &mut |call| check(call, bytes), &mut || {
             black_box(reference::check(black_box(bytes))).ok();
         }));
         let position = set[set.len() / 2];
-        let sides = Sides::of(bv_bitmap_probe as Probe, "bv_bitmap_probe");
+        let sides = sides!(bv_bitmap_probe as Probe);
         print(measure("probe", name, sides, &mut |call| probe(call, bytes, position), &mut || {
             black_box(reference::probe(black_box(bytes), position)).ok();
         }));
-        let sides = Sides::of(bv_bitmap_rank as Rank, "bv_bitmap_rank");
+        let sides = sides!(bv_bitmap_rank as Rank);
         print(measure("rank", name, sides, &mut |call| rank(call, bytes, position), &mut || {
             black_box(reference::rank(black_box(bytes), position)).ok();
         }));
         let (mut first, mut second) = (vec![0; set.len()], vec![0; set.len()]);
-        let sides = Sides::of(bv_bitmap_page as Page, "bv_bitmap_page");
+        let sides = sides!(bv_bitmap_page as Page);
         let listing = &mut |call| list(call, bytes, &mut first);
         print(measure("full listing", name, sides, listing, &mut || {
             black_box(reference::page(black_box(bytes), 0, false, &mut second)).ok();

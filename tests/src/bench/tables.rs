@@ -1,6 +1,6 @@
 //! Judging large row blocks and buckets, and asking for every field of small ones.
 
-use super::{measure, Print, Sides};
+use super::{measure, Print};
 use crate::ffi::Field;
 use crate::generate::schema::schema_bytes;
 use crate::generate::Random;
@@ -93,7 +93,7 @@ pub fn run_rows(print: Print) {
     let large = filled(&mut random, &columns, MAX_BYTES, 65_536);
     let rows = reference::check(&schema, &large).expect("a sound block");
     let input = describe(large.len(), rows, columns.len());
-    let sides = Sides::of(bv_block_check as BlockCheck, "bv_block_check");
+    let sides = sides!(bv_block_check as BlockCheck);
     let checking = &mut |call| block_check(call, &schema, &large);
     print(measure("block check", &input, sides, checking, &mut || {
         black_box(reference::check(&schema, black_box(&large))).ok();
@@ -106,7 +106,7 @@ pub fn run_rows(print: Print) {
     print(measure(
         "block field, every one",
         &input,
-        Sides::of(bv_block_field as BlockField, "bv_block_field"),
+        sides!(bv_block_field as BlockField),
         &mut |call| ask_all(rows, fields, &|r, c| block_field(call, &schema, &small, r, c)),
         &mut || ask_all(rows, fields, &|row, column| second(row, column).ok()),
     ));
@@ -133,7 +133,7 @@ pub fn run_buckets(print: Print) {
     print(measure(
         "bucket check",
         &input,
-        Sides::of(bv_bucket_check as BucketCheck, "bv_bucket_check"),
+        sides!(bv_bucket_check as BucketCheck),
         &mut |call| bucket_check(call, &schema, rows, &large),
         &mut || {
             black_box(reference::check(&schema, rows, black_box(&large))).ok();
@@ -148,7 +148,7 @@ pub fn run_buckets(print: Print) {
     print(measure(
         "bucket field, every one",
         &input,
-        Sides::of(bv_bucket_field as BucketField, "bv_bucket_field"),
+        sides!(bv_bucket_field as BucketField),
         &mut |call| ask_all(rows, fields, &|r, c| bucket_field(call, &schema, rows, &small, r, c)),
         &mut || ask_all(rows, fields, &|row, column| second(row, column).map(Field::from)),
     ));

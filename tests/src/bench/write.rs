@@ -1,6 +1,6 @@
 //! Writing lists of positions.
 
-use super::{bitmaps, form, measure, Print, Sides};
+use super::{bitmaps, form, measure, Print};
 use crate::ffi::write::bv_bitmap_write;
 use crate::reference::bitmap as reference;
 use std::hint::black_box;
@@ -12,7 +12,7 @@ pub fn run(print: Print) {
     for (name, set) in bitmaps().into_iter().chain([full]) {
         let expected = form(&set);
         let (mut first, mut second) = (vec![0; expected.len()], vec![0; expected.len()]);
-        let sides = Sides::of(bv_bitmap_write as Write, "bv_bitmap_write");
+        let sides = sides!(bv_bitmap_write as Write);
         let writing = &mut |call| write(call, &set, &mut first);
         print(measure("write", name, sides, writing, &mut || {
             black_box(reference::write(black_box(&set), &mut second)).ok();
