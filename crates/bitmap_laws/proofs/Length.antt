@@ -95,18 +95,21 @@ cost-widest : (vs : List ℕ) → cost vs (largest (map width vs)) ≡ 32 * larg
 unfolding cost ceil8
 cost-widest vs = rw (none-wider (largest (map width vs)) vs (omega arith)) (omega arith)
 
-pub chunk-size : (ds : List ℕ) → AllLe 63 ds → length ds ≤ 256 → length (writeChunk ds) ≤ 195
+-- a chunk takes at most what its largest width asks for
+pub chunk-most : (ds : List ℕ) → length ds ≤ 256
+    → length (writeChunk ds) ≤ 3 + 32 * largest (map width (map (λ d. d - least ds) ds))
 unfolding writeChunk
-chunk-size ds a h =
-    let vs : List ℕ = map (λ d. d - least ds) ds in
+chunk-most ds h =
     rw (length-chunkOf (map (λ d. d - least ds) ds) (least ds) (cheapest (map (λ d. d - least ds) ds) (largest (map width (map (λ d. d - least ds) ds)))))
     (omega (
       arith,
       size-cost (map (λ d. d - least ds) ds) (cheapest (map (λ d. d - least ds) ds) (largest (map width (map (λ d. d - least ds) ds)))) (rw (length-map ds (λ d. d - least ds)) h),
       cheapest-cost (map (λ d. d - least ds) ds) (largest (map width (map (λ d. d - least ds) ds))),
       cost-widest (map (λ d. d - least ds) ds),
-      widest-small (map (λ d. d - least ds) ds) (le-map (least ds) 63 ds a),
     ))
+
+pub chunk-size : (ds : List ℕ) → AllLe 63 ds → length ds ≤ 256 → length (writeChunk ds) ≤ 195
+chunk-size ds a h = omega (arith, chunk-most ds h, widest-small (map (λ d. d - least ds) ds) (le-map (least ds) 63 ds a))
 
 pub chunks-size : (k : ℕ) (ds : List ℕ) → AllLe 63 ds → k * 256 ≤ length ds → length ds < k * 256 + 256 → length (writeChunks k ds) ≤ 195 * ((length ds + 255) / 256)
 unfolding writeChunks
@@ -121,7 +124,7 @@ chunks-size (suc k) ds a p q =
       chunks-size k (drop 256 ds) (all-drop 63 256 ds a) (rw (length-drop 256 ds) (omega arith)) (rw (length-drop 256 ds) (omega arith)),
     ))
 
-size-le : (d : ℕ) → sizeOf d ≤ 32
+pub size-le : (d : ℕ) → sizeOf d ≤ 32
 unfolding sizeOf
 size-le d = go (ltb d 32) refl
   where
@@ -129,7 +132,7 @@ size-le d = go (ltb d 32) refl
     go true e = omega (arith, borrow.Author.Tests.ltb-true d 32 e)
     go false e = omega arith
 
-sum-le : (ds : List ℕ) → sum sizeOf ds ≤ 32 * length ds
+pub sum-le : (ds : List ℕ) → sum sizeOf ds ≤ 32 * length ds
 unfolding sum
 sum-le [] = omega arith
 sum-le (d ∷ ds) = omega (arith, size-le d, sum-le ds)

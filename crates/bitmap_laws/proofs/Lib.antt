@@ -12,8 +12,10 @@ pub mod Cuts
 pub mod Values
 pub mod Written
 pub mod Bodies
+pub mod Stored
 pub mod Round
 pub mod Length
+pub mod Bound
 pub mod Plans
 pub mod Uses
 pub mod Output
