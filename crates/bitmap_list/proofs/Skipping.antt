@@ -13,7 +13,7 @@ use lib.Dec.{leb}
 use Rattle.common.specs.Lists.{keep, rising, sum}
 use Rattle.bitmap_spec.specs.Judge.{sizeOf, container, containersOk, membersFrom}
 use Rattle.bitmap_spec.specs.Ask.{atOrAbove}
-use Rattle.judge.specs.Post.{View, viewed}
+use Rattle.judge.specs.Post.{SliceView, viewed}
 use Rattle.bitmap_laws.proofs.Cuts.{keep-append}
 use Rattle.bitmap_laws.proofs.Members.{head-ok}
 use Rattle.bitmap_read.proofs.Held.{ok-first, ok-rest, shifted-up, Walk}
@@ -36,29 +36,38 @@ unfolding membersFrom
 skip-one s k at d ds p ok h =
     above-cat p (map (λ j. k * 256 + j) (container s at d)) (membersFrom s (suc k) (at + sizeOf d) ds)
     ∙ ap (λ (l : List ℕ). l ++ atOrAbove p (membersFrom s (suc k) (at + sizeOf d) ds))
-    (above-none (k * 256 + 256) (k * 256) (map (λ j. k * 256 + j) (container s at d)) p (shifted-up s k at d (ok-first s k at d ds 0 ok)) (omega arith))
+    (above-none (k * 256 + 256) (k * 256) (map (λ j. k * 256 + j) (container s at d)) p
+    (shifted-up s k at d (ok-first s k at d ds 0 ok)) (omega arith))
 
 -- what is left after i containers
 pub record Skipped (s : List ℕ) (k at : ℕ) (ds : List ℕ) (p i : ℕ) : Type 0 where
   pub ends : at + sum sizeOf (take i ds) + sum sizeOf (drop i ds) ≡ at + sum sizeOf ds
   pub sound : containersOk s (at + sum sizeOf (take i ds)) (drop i ds) ≡ true
-  pub is : atOrAbove p (membersFrom s k at ds) ≡ atOrAbove p (membersFrom s (k + i) (at + sum sizeOf (take i ds)) (drop i ds))
+  pub is :
+      atOrAbove p (membersFrom s k at ds) ≡ atOrAbove p
+      (membersFrom s (k + i) (at + sum sizeOf (take i ds)) (drop i ds))
 
-pub skip : (s : List ℕ) (k at : ℕ) (ds : List ℕ) (p i : ℕ) → containersOk s at ds ≡ true → i ≤ length ds → (k + i) * 256 ≤ p → Skipped s k at ds p i
+pub skip : (s : List ℕ) (k at : ℕ) (ds : List ℕ) (p i : ℕ) → containersOk s at ds ≡ true → i ≤ length ds
+    → (k + i) * 256 ≤ p → Skipped s k at ds p i
 unfolding sum
-skip s k at ds p zero ok h g = record { ends = omega arith; sound = rw (add-zero at) ok; is = rw (add-zero at, add-zero k) }
+skip s k at ds p zero ok h g =
+    record { ends = omega arith; sound = rw (add-zero at) ok; is = rw (add-zero at, add-zero k) }
 skip s k at [] p (suc i) ok h g = absurd (not-suc-le-zero h)
 skip s k at (d ∷ ds) p (suc i) ok h g =
     let r = skip s (suc k) (at + sizeOf d) ds p i (ok-rest s k at d ds 0 ok) (le-of-suc-le-suc h) (omega arith) in
     record {
       ends = omega (arith, r .ends);
       sound = rw (← add-assoc at (sizeOf d) (sum sizeOf (take i ds))) (r .sound);
-      is = skip-one s k at d ds p ok (omega arith) ∙ r .is ∙ rw (add-suc k i, suc-add k i, add-assoc at (sizeOf d) (sum sizeOf (take i ds)));
+      is = skip-one s k at d ds p ok (omega arith) ∙ r .is
+          ∙ rw (add-suc k i, suc-add k i, add-assoc at (sizeOf d) (sum sizeOf (take i ds)));
     }
 
-module _ (s d : List ℕ) (n start p k : ℕ) (v : View s d n start (viewed s d n start)) (h : k ≤ n) (g : k * 256 ≤ p) where
+module _ (s d : List ℕ) (n start p k : ℕ) (v : SliceView s d n start (viewed s d n start)) (h : k ≤ n)
+    (g : k * 256 ≤ p) where
   skipped : Skipped s 0 start (take n d) p k
-  skipped = skip s 0 start (take n d) p k (v .sound) (rw (length-take-le n d (omega (arith, v .few, v .long))) h) (omega arith)
+  skipped =
+      skip s 0 start (take n d) p k (v .sound) (rw (length-take-le n d (omega (arith, v .few, v .long))) h)
+      (omega arith)
 
   pub skip-walk : Walk s d n (start + sum sizeOf (take k d)) k
   skip-walk = record {
@@ -68,7 +77,9 @@ module _ (s d : List ℕ) (n start p k : ℕ) (v : View s d n start (viewed s d 
     sound = rw (take-take k n d h) at (skipped .sound);
   }
 
-  pub skip-is : atOrAbove p (viewed s d n start) ≡ atOrAbove p (membersFrom s k (start + sum sizeOf (take k d)) (drop k (take n d)))
+  pub skip-is :
+      atOrAbove p (viewed s d n start) ≡ atOrAbove p
+      (membersFrom s k (start + sum sizeOf (take k d)) (drop k (take n d)))
   unfolding viewed
   skip-is =
       let z : 0 + k ≡ k = omega arith in

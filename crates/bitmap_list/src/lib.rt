@@ -4,7 +4,7 @@ ghost use Prim.Native.Nat.{_+_, _*_, _≤_, _<_};
 ghost use lib.ListN.{length, getD, take, drop};
 ghost use Rattle.bitmap_spec.specs.Judge.{sizeOf, dense, container, membersFrom};
 ghost use Rattle.bitmap_spec.specs.Ask as ask;
-ghost use Rattle.judge.specs.Post.{View, viewed};
+ghost use Rattle.judge.specs.Post.{SliceView, RoomFor, viewed};
 ghost use Rattle.bitmap_read.proofs.Held.{Walk};
 ghost use Rattle.bitmap_list.specs.Post.{Pages, Filled, Decoded, Spread};
 use bitmap_spec::Listing;
@@ -78,7 +78,7 @@ fn member(s: &[u8], at: usize, d: u8, out: &[u8; 256], j: usize) -> u8
 // Writes the members at or above the place, from container `first` at byte `from` on, until the list is full.
 fn fill_page(
     s: &[u8],
-    d: &[u8; 8192],
+    d: &[u8],
     n: usize,
     first: usize,
     from: usize,
@@ -120,8 +120,8 @@ fn fill_page(
 }
 
 // The same of a whole judged set: the containers wholly below the place are skipped.
-fn list_from(s: &[u8], d: &[u8; 8192], n: usize, start: usize, place: u32, list: &mut [u32]) -> Run
-    requires { ⌜ View (now s) (now d) n start (viewed (now s) (now d) n start) ⌝ }
+fn list_from(s: &[u8], d: &[u8], n: usize, start: usize, place: u32, list: &mut [u32]) -> Run
+    requires { ⌜ SliceView (now s) (now d) n start (viewed (now s) (now d) n start) ⌝ }
     ensures { λ r. ⌜ Filled (ask.atOrAbove place (viewed (now (s .entry)) (now (d .entry)) n start)) place (now (list .entry)) (now (list .exit)) r ⌝ }
 {
     let k = (place / 256) as usize;
@@ -130,12 +130,12 @@ fn list_from(s: &[u8], d: &[u8; 8192], n: usize, start: usize, place: u32, list:
     fill_page(s, d, n, first, from, place, list)
 }
 
-// Judges s, then gives the first members at or above the place, as many as the list takes.
-pub fn page(s: &[u8], at: Listing, list: &mut [u32]) -> Paged
+// Judges s with room for its descriptors, then gives the members from the place on, as many as the list takes.
+fn page_in(s: &[u8], at: Listing, d: &mut [u8], list: &mut [u32]) -> Paged
+    requires { ⌜ RoomFor (now s) (length (now d)) ⌝ }
     ensures { λ r. ⌜ Pages (ask.page (now (s .entry)) at (length (now (list .entry)))) (now (list .entry)) (now (list .exit)) r ⌝ }
 {
-    let mut d = [0u8; 8192];
-    match judge::judge_into(s, &mut d) {
+    match judge::judge_slice(s, d) {
         Judged::Refused(r) => Paged::Refused(r),
         Judged::Accepted {
             count,
@@ -145,7 +145,7 @@ pub fn page(s: &[u8], at: Listing, list: &mut [u32]) -> Paged
             if at.finished {
                 return Paged::Page { given: 0, next: at };
             }
-            let r = list_from(s, &d, count, start, at.place, list);
+            let r = list_from(s, d, count, start, at.place, list);
             let given = r.given;
             let next = Listing {
                 place: r.place,
@@ -154,4 +154,16 @@ pub fn page(s: &[u8], at: Listing, list: &mut [u32]) -> Paged
             Paged::Page { given, next }
         }
     }
+}
+
+// Judges s, then gives the first members at or above the place, as many as the list takes.
+pub fn page(s: &[u8], at: Listing, list: &mut [u32]) -> Paged
+    ensures { λ r. ⌜ Pages (ask.page (now (s .entry)) at (length (now (list .entry)))) (now (list .entry)) (now (list .exit)) r ⌝ }
+{
+    if judge::is_small(s) {
+        let mut d = [0u8; 256];
+        return page_in(s, at, &mut d, list);
+    }
+    let mut d = [0u8; 8192];
+    page_in(s, at, &mut d, list)
 }

@@ -5,7 +5,7 @@ ghost use lib.ListN.{length, take, drop};
 ghost use Rattle.common.specs.Lists.{mem};
 ghost use Rattle.bitmap_spec.specs.Judge.{sizeOf, container};
 ghost use Rattle.bitmap_spec.specs.Ask as ask;
-ghost use Rattle.judge.specs.Post.{View, viewed};
+ghost use Rattle.judge.specs.Post.{SliceView, RoomFor, viewed};
 ghost use Rattle.bitmap_read.specs.Post.{checked, probed, ranked};
 use judge::Judged;
 
@@ -55,8 +55,8 @@ fn container_has(s: &[u8], at: usize, d: u8, j: u32) -> bool
 }
 
 // Whether the position is a member of the set that the first n descriptors of d and the containers from `start` on hold.
-fn set_has(s: &[u8], d: &[u8; 8192], n: usize, start: usize, position: u32) -> bool
-    requires { ⌜ View (now s) (now d) n start (viewed (now s) (now d) n start) ⌝ }
+fn set_has(s: &[u8], d: &[u8], n: usize, start: usize, position: u32) -> bool
+    requires { ⌜ SliceView (now s) (now d) n start (viewed (now s) (now d) n start) ⌝ }
     ensures { λ r. ⌜ r ≡ mem position (viewed (now (s .entry)) (now (d .entry)) n start) ⌝ }
 {
     let k = (position / 256) as usize;
@@ -106,8 +106,8 @@ fn container_count(s: &[u8], at: usize, d: u8) -> u32
 }
 
 // How many members of that set lie below the position: those of the containers before its own, and some of its own.
-fn set_below(s: &[u8], d: &[u8; 8192], n: usize, start: usize, position: u32) -> u32
-    requires { ⌜ View (now s) (now d) n start (viewed (now s) (now d) n start) ⌝ }
+fn set_below(s: &[u8], d: &[u8], n: usize, start: usize, position: u32) -> u32
+    requires { ⌜ SliceView (now s) (now d) n start (viewed (now s) (now d) n start) ⌝ }
     ensures { λ r. ⌜ r ≡ ask.below position (viewed (now (s .entry)) (now (d .entry)) n start) ⌝ }
 {
     let own = (position / 256) as usize;
@@ -126,12 +126,12 @@ fn set_below(s: &[u8], d: &[u8; 8192], n: usize, start: usize, position: u32) ->
     below
 }
 
-// Judges s: its refusal, or its cardinality.
-pub fn check(s: &[u8]) -> Checked
+// Judges s with room for its descriptors: its refusal, or its cardinality.
+fn check_in(s: &[u8], d: &mut [u8]) -> Checked
+    requires { ⌜ RoomFor (now s) (length (now d)) ⌝ }
     ensures { λ r. ⌜ checked r ≡ ask.check (now (s .entry)) ⌝ }
 {
-    let mut d = [0u8; 8192];
-    match judge::judge_into(s, &mut d) {
+    match judge::judge_slice(s, d) {
         Judged::Refused(r) => Checked::Refused(r),
         Judged::Accepted {
             count: _,
@@ -141,18 +141,58 @@ pub fn check(s: &[u8]) -> Checked
     }
 }
 
-// Judges s: its refusal, or whether the position is a member. Any 32-bit number may be asked.
-pub fn probe(s: &[u8], position: u32) -> Probed
+// Judges s: its refusal, or its cardinality. Where 256 descriptors are enough, no more are cleared: to clear 8,192
+// bytes takes longer than to judge a small bitmap.
+pub fn check(s: &[u8]) -> Checked
+    ensures { λ r. ⌜ checked r ≡ ask.check (now (s .entry)) ⌝ }
+{
+    if judge::is_small(s) {
+        let mut d = [0u8; 256];
+        return check_in(s, &mut d);
+    }
+    let mut d = [0u8; 8192];
+    check_in(s, &mut d)
+}
+
+// Judges s with room for its descriptors: its refusal, or whether the position is a member.
+fn probe_in(s: &[u8], position: u32, d: &mut [u8]) -> Probed
+    requires { ⌜ RoomFor (now s) (length (now d)) ⌝ }
     ensures { λ r. ⌜ probed r ≡ ask.probe (now (s .entry)) position ⌝ }
 {
-    let mut d = [0u8; 8192];
-    match judge::judge_into(s, &mut d) {
+    match judge::judge_slice(s, d) {
         Judged::Refused(r) => Probed::Refused(r),
         Judged::Accepted {
             count,
             start,
             cardinality: _,
-        } => Probed::Member(set_has(s, &d, count, start, position)),
+        } => Probed::Member(set_has(s, d, count, start, position)),
+    }
+}
+
+// Judges s: its refusal, or whether the position is a member. Any 32-bit number may be asked.
+pub fn probe(s: &[u8], position: u32) -> Probed
+    ensures { λ r. ⌜ probed r ≡ ask.probe (now (s .entry)) position ⌝ }
+{
+    if judge::is_small(s) {
+        let mut d = [0u8; 256];
+        return probe_in(s, position, &mut d);
+    }
+    let mut d = [0u8; 8192];
+    probe_in(s, position, &mut d)
+}
+
+// Judges s with room for its descriptors: its refusal, or how many members lie below the position.
+fn rank_in(s: &[u8], position: u32, d: &mut [u8]) -> Ranked
+    requires { ⌜ RoomFor (now s) (length (now d)) ⌝ }
+    ensures { λ r. ⌜ ranked r ≡ ask.rank (now (s .entry)) position ⌝ }
+{
+    match judge::judge_slice(s, d) {
+        Judged::Refused(r) => Ranked::Refused(r),
+        Judged::Accepted {
+            count,
+            start,
+            cardinality: _,
+        } => Ranked::Below(set_below(s, d, count, start, position)),
     }
 }
 
@@ -160,13 +200,10 @@ pub fn probe(s: &[u8], position: u32) -> Probed
 pub fn rank(s: &[u8], position: u32) -> Ranked
     ensures { λ r. ⌜ ranked r ≡ ask.rank (now (s .entry)) position ⌝ }
 {
-    let mut d = [0u8; 8192];
-    match judge::judge_into(s, &mut d) {
-        Judged::Refused(r) => Ranked::Refused(r),
-        Judged::Accepted {
-            count,
-            start,
-            cardinality: _,
-        } => Ranked::Below(set_below(s, &d, count, start, position)),
+    if judge::is_small(s) {
+        let mut d = [0u8; 256];
+        return rank_in(s, position, &mut d);
     }
+    let mut d = [0u8; 8192];
+    rank_in(s, position, &mut d)
 }

@@ -14,24 +14,26 @@ use Rattle.common.specs.Outcome.{Outcome, refused, found, need}
 use Rattle.bitmap_spec.specs.Bits.{spareZero}
 use Rattle.bitmap_spec.specs.Judge.{Chunk, chunk, chunkWith, descriptor, widthsOk, headAt, headWith, chunkEnd}
 use Rattle.bitmap_spec.specs.declared.ChunkHead.{ChunkHead}
-use Rattle.common.proofs.Lists.{rising-less, both-left}
-use Rattle.chunk_read.specs.Post.{Decoded, Rises, Laid}
+use Rattle.common.proofs.Lists.{rising-range, both-left}
+use Rattle.chunk_read.specs.Post.{Decoded, Laid}
 use Rattle.chunk_read.specs.declared.Step.the-variants.{Refused, Next}
 
--- offsets that passed the test rise
-pub offsets-rise : (n : ℕ) (s : List ℕ) (o e : ℕ) → rising n 0 (take e (drop o s)) ≡ true → o + e ≤ length s → Rises s o e
-offsets-rise n s o e t h a b l g =
+-- offsets that passed the test are below n
+pub offsets-inside : (n : ℕ) (s : List ℕ) (o e : ℕ) → rising n 0 (take e (drop o s)) ≡ true → o + e ≤ length s → (j : ℕ)
+    → j < e → getD s (o + j) 0 < n
+offsets-inside n s o e t h j l =
     let len : length (take e (drop o s)) ≡ e = length-take-le e (drop o s) (rw length-drop (omega arith)) in
-    let r = rising-less n 0 (take e (drop o s)) a b t l (rw len g) in
-    let la : a < e = omega arith in
-    rw (getD-take e (drop o s) a 0 la, getD-take e (drop o s) b 0 g, getD-drop o s a 0, getD-drop o s b 0) at r
+    let r = rising-range n 0 (take e (drop o s)) j t (rw len l) .1 in
+    rw (getD-take e (drop o s) j 0 l, getD-drop o s j 0) at r
 
 module _ (o : Outcome Chunk) (before after : List ℕ) (k n : ℕ) where
   pub refuse : (r : ℕ) → o ≡ refused r → Decoded o before after k n (Refused r)
   refuse r e = record { says = rw e; holds = λ c q. absurd (let z : _≡_ {A = ℕ} 0 1 = cc in omega arith) }
 
-  pub accept : (ds : List ℕ) (at : ℕ) → o ≡ found (record { descs = ds; next = at }) → take (k + n) after ≡ take k before ++ ds → Decoded o before after k n (Next at)
-  accept ds at e h = record { says = rw e; holds = λ c q. let z : record { descs = ds; next = at } ≡ c = cc in rw (← z) h }
+  pub accept : (ds : List ℕ) (at : ℕ) → o ≡ found (record { descs = ds; next = at })
+      → take (k + n) after ≡ take k before ++ ds → Decoded o before after k n (Next at)
+  accept ds at e h =
+      record { says = rw e; holds = λ c q. let z : record { descs = ds; next = at } ≡ c = cc in rw (← z) h }
 
 module _ (s : List ℕ) (n : ℕ) (h : ChunkHead) where
   pub with4 : length s < chunkEnd h → chunkWith s n h ≡ refused 4
@@ -83,11 +85,13 @@ unfolding widthsOk
 widths-sum h e = leb-true (h .b1 + h .b2) 8 (both-left _ _ e)
 
 -- what the three bytes give
-pub head-narrow : (s : List ℕ) (at n : ℕ) (h : ChunkHead) → h ≡ headAt s at n → getD s at 0 < 256 → (h .b1 < 16) × (h .b2 < 16)
+pub head-narrow : (s : List ℕ) (at n : ℕ) (h : ChunkHead) → h ≡ headAt s at n → getD s at 0 < 256
+    → (h .b1 < 16) × (h .b2 < 16)
 unfolding headAt headWith
 head-narrow s at n h e l = rw e (omega arith, omega arith)
 
-pub laid : (s : List ℕ) (at n : ℕ) (h : ChunkHead) → h ≡ headAt s at n → h .e < 256 → n ≤ 256 → at + 3 ≤ length s → widthsOk h ≡ true → Laid (length s) n h
+pub laid : (s : List ℕ) (at n : ℕ) (h : ChunkHead) → h ≡ headAt s at n → h .e < 256 → n ≤ 256 → at + 3 ≤ length s
+    → widthsOk h ≡ true → Laid (length s) n h
 unfolding headAt headWith
 laid s at n h e l m g w = record {
   widths = widths-sum h w;

@@ -9,6 +9,22 @@ ghost use Rattle.bitmap_spec.specs.Form.{writeChunks};
 ghost use Rattle.bitmap_spec.specs.Output.{written};
 ghost use Rattle.bitmap_laws.proofs.Round.{header};
 ghost use Rattle.bitmap_laws.proofs.Values.{AllLe};
+ghost use Rattle.form_write.specs.Described.{Trimmed};
+
+// How many descriptors are left where the last ones that are 0 are dropped.
+pub fn trim(ds: &[u8], n: usize) -> usize
+    requires { ⌜ n ≤ length (now ds) ⌝ }
+    ensures { λ r. ⌜ Trimmed (now (ds .entry)) n r ⌝ }
+{
+    let mut m = n;
+    while 0 < m {
+        if ds[m - 1] != 0 {
+            return m;
+        }
+        m -= 1;
+    }
+    m
+}
 
 // The bytes that the containers of these descriptors take.
 fn body_size(ds: &[u8]) -> usize

@@ -1,16 +1,22 @@
 -- Two judged bitmaps side by side, and their containers combined.
-use Prim.Native.Nat.{ℕ, _+_, _-_, _≤_, _<_}
+use Prim.Native.Nat.{ℕ, _+_, _-_, _*_, _≤_, _<_}
 use mathlib.Core.Path.{_≡_}
 use mathlib.Core.Bool.{Bool}
-use mathlib.Core.List.{List}
-use lib.ListN.{length, getD, take}
-use lib.Dec.{ltb}
+use mathlib.Core.List.{List, _++_, map}
+use lib.ListN.{length, getD, take, drop}
+use lib.Dec.{ltb, eqb}
 use Rattle.common.specs.Outcome.{pick}
 use Rattle.common.specs.Lists.{keep, from, mem, sum}
-use Rattle.bitmap_spec.specs.Judge.{container, sizeOf}
+use Rattle.bitmap_spec.specs.Bits.{bit}
+use Rattle.bitmap_spec.specs.Judge.{container, dense, sizeOf}
+use Rattle.bitmap_spec.specs.Form.{cut, writeContainers}
+use Rattle.bitmap_spec.specs.Output.{written}
 use Rattle.bitmap_spec.specs.Sets.{holds, combine}
 use Rattle.bitmap_spec.specs.declared.Operation.{Operation}
-use Rattle.judge.specs.Post.{View, viewed}
+use Rattle.bitmap_spec.specs.declared.Operation.the-variants.{Union, Intersection, Difference, SymmetricDifference}
+use Rattle.form_write.specs.Described.{descsTo}
+use Rattle.judge.specs.Post.{SliceView, viewed}
+use Rattle.pair_write.specs.declared.Reached.{Reached}
 use Rattle.pair_write.specs.declared.Side.{Side}
 
 -- descriptor k of the first n, 0 past them
@@ -21,6 +27,10 @@ descAt d n k = pick (ltb k n) (getD d k 0) 0
 unfoldable pub placeAt : List ℕ → Side → ℕ → ℕ
 placeAt d x k = x .start + sum sizeOf (take k (take (x .count) d))
 
+-- whether j is a member of the block of a at at, combined with a container of b
+unfoldable pub halfHolds : Operation → List ℕ → ℕ → List ℕ → ℕ → ℕ → ℕ → Bool
+halfHolds o a at b bt e j = holds o (mem j (dense a at)) (mem j (container b bt e))
+
 -- whether j is a member of two containers combined
 unfoldable pub pairHolds : Operation → List ℕ → ℕ → ℕ → List ℕ → ℕ → ℕ → ℕ → Bool
 pairHolds o a at d b bt e j = holds o (mem j (container a at d)) (mem j (container b bt e))
@@ -29,17 +39,45 @@ pairHolds o a at d b bt e j = holds o (mem j (container a at d)) (mem j (contain
 unfoldable pub pairMembers : Operation → List ℕ → ℕ → ℕ → List ℕ → ℕ → ℕ → List ℕ
 pairMembers o a at d b bt e = keep (pairHolds o a at d b bt e) (from 0 256)
 
+-- the bit that a member of the first has in the second, where an operation keeps it that keeps no other
+abbrev pub wantOf : Operation → ℕ
+wantOf Union = 1
+wantOf Intersection = 1
+wantOf Difference = 0
+wantOf SymmetricDifference = 1
+
+-- those of the n bytes of s at at whose bit in the block of t at start is want
+unfoldable pub kept : List ℕ → ℕ → ℕ → List ℕ → ℕ → ℕ → List ℕ
+kept s at n t start want = keep (λ x. eqb (bit t (start * 8 + x)) want) (take n (drop at s))
+
 -- both bitmaps were judged
 pub record Both (a da : List ℕ) (x : Side) (b db : List ℕ) (y : Side) : Type 0 where
-  pub first : View a da (x .count) (x .start) (viewed a da (x .count) (x .start))
-  pub second : View b db (y .count) (y .start) (viewed b db (y .count) (y .start))
+  pub first : SliceView a da (x .count) (x .start) (viewed a da (x .count) (x .start))
+  pub second : SliceView b db (y .count) (y .start) (viewed b db (y .count) (y .start))
 
 -- the set of the result
 unfoldable pub result : Operation → List ℕ → List ℕ → Side → List ℕ → List ℕ → Side → List ℕ
 result o a da x b db y = combine o (viewed a da (x .count) (x .start)) (viewed b db (y .count) (y .start))
 
--- of the first n descriptors those from r on are 0, and the one before them is not
-pub record Trimmed (ds : List ℕ) (n r : ℕ) : Type 0 where
-  pub within : r ≤ n
-  pub zeros : (k : ℕ) → r ≤ k → k < n → getD ds k 0 ≡ 0
-  pub last : 0 < r → getD ds (r - 1) 0 ≡ 0 → ⊥
+-- the pass over the containers of the set l stands at container k
+pub record Reaches (l da : List ℕ) (x : Side) (db : List ℕ) (y : Side) (k : ℕ) (p : Reached) : Type 0 where
+  pub members : p .card ≡ length (keep (λ z. mem z l) (from 0 (k * 256)))
+  pub few : p .card ≤ k * 256
+  pub bytes : p .size ≡ length (writeContainers (map (cut l) (from 0 k)))
+  pub first : p .at ≡ placeAt da x k
+  pub second : p .bt ≡ placeAt db y k
+
+-- room and what is done have, before each of the containers from k to n, 32 bytes more than those before it take
+pub record Roomy (l : List ℕ) (k n done room : ℕ) : Type 0 where
+  pub roomy : (j : ℕ) → k ≤ j → j < n → length (writeContainers (map (cut l) (from 0 j))) + 32 ≤ done + room
+
+-- it went on from k to n: the descriptors, behind those before them, and the bytes in body
+pub record Gathers (l da : List ℕ) (x : Side) (db : List ℕ) (y : Side) (k n : ℕ) (p : Reached) (before ds body : List ℕ)
+    (r : Reached) : Type 0 where
+  pub reached : Reaches l da x db y n r
+  pub descs : (first : List ℕ) → n ≤ length first → before ≡ written first 0 (descsTo l k)
+      → ds ≡ written first 0 (descsTo l n)
+  pub grown : p .size ≤ r .size
+  pub within : r .size - p .size ≤ length body
+  pub bytes : writeContainers (map (cut l) (from 0 k)) ++ take (r .size - p .size) body
+      ≡ writeContainers (map (cut l) (from 0 n))

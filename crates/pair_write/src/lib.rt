@@ -1,17 +1,19 @@
-// Two judged bitmaps combined, container by container: first the descriptors of the result, then its form. Inner: no entry point.
+// Two judged bitmaps combined, each pair of containers once: descriptors, members and bytes in one pass. Inner: no
+// entry point. put_alone and put_filtered are called from two places or more, so that they stay out of the loop.
 ghost use mathlib.Core.Path.{_≡_};
-ghost use mathlib.Core.List.{map};
-ghost use Prim.Native.Nat.{_+_, _*_, _≤_, _<_, max, min};
+ghost use mathlib.Core.Bool.{true, false};
+ghost use mathlib.Core.List.{_++_};
+ghost use Prim.Native.Nat.{_+_, _≤_, _<_, max, min};
 ghost use lib.ListN.{length, take};
-ghost use Rattle.common.specs.Lists.{keep, mem, from};
-ghost use Rattle.bitmap_spec.specs.Judge.{sizeOf};
-ghost use Rattle.bitmap_spec.specs.Form.{form, cut, descriptorOf, writeContainer, writeContainers};
-ghost use Rattle.bitmap_spec.specs.Output.{written, placed, Gives};
+ghost use Rattle.common.specs.Lists.{keep, from};
+ghost use Rattle.bitmap_spec.specs.Judge.{sizeOf, container, containerOk};
+ghost use Rattle.bitmap_spec.specs.Form.{writeContainer};
+ghost use Rattle.bitmap_spec.specs.Output.{written};
+ghost use Rattle.bitmap_spec.specs.Sets.{holds};
 ghost use Rattle.blocks.specs.Block.{block};
-ghost use Rattle.form_write.specs.Described.{descsTo, Describes};
-ghost use Rattle.pair_write.specs.Sides.{descAt, pairHolds, pairMembers, Both, Trimmed, result};
+ghost use Rattle.form_write.specs.Described.{descsTo};
+ghost use Rattle.pair_write.specs.Sides.{descAt, halfHolds, pairHolds, pairMembers, wantOf, kept, Both, Reaches, Roomy, Gathers, result};
 use bitmap_spec::Operation;
-use bitmap_spec::Written;
 
 // Where a judged bitmap's containers lie: how many descriptors it has, and where its containers start.
 pub struct Side {
@@ -19,9 +21,17 @@ pub struct Side {
     pub start: usize,
 }
 
+// Where the pass over the pairs stands: the members and bytes of the containers passed, and where the next two lie.
+pub struct Reached {
+    pub card: u32,
+    pub size: usize,
+    pub at: usize,
+    pub bt: usize,
+}
+
 // Descriptor k of the first n; past them a container is empty.
-fn descriptor_at(d: &[u8; 8192], n: usize, k: usize) -> u8
-    requires { ⌜ n ≤ 8192 ⌝ }
+fn descriptor_at(d: &[u8], n: usize, k: usize) -> u8
+    requires { ⌜ n ≤ length (now d) ⌝ }
     ensures { λ r. ⌜ r ≡ descAt (now (d .entry)) n k ⌝ }
 {
     if k < n {
@@ -31,7 +41,7 @@ fn descriptor_at(d: &[u8; 8192], n: usize, k: usize) -> u8
 }
 
 // The larger of two numbers.
-fn larger(m: usize, n: usize) -> usize
+pub fn larger(m: usize, n: usize) -> usize
     ensures { λ r. ⌜ r ≡ max m n ⌝ }
 {
     if m < n {
@@ -40,27 +50,222 @@ fn larger(m: usize, n: usize) -> usize
     m
 }
 
-// The block of two containers combined.
-fn pair(o: Operation, a: &[u8], at: usize, d: u8, b: &[u8], bt: usize, e: u8) -> [u8; 32]
-    requires { ⌜ (at + sizeOf d ≤ length (now a)) × (bt + sizeOf e ≤ length (now b)) ⌝ }
-    ensures { λ r. ⌜ r ≡ block (pairHolds o (now (a .entry)) at d (now (b .entry)) bt e) ⌝ }
+// Joins the block of a at `at` with a container of b, as a block at out[to], and says how many members it has.
+fn join_second(
+    o: Operation,
+    a: &[u8],
+    at: usize,
+    b: &[u8],
+    bt: usize,
+    e: u8,
+    out: &mut [u8],
+    to: usize,
+) -> u32
+    requires { ⌜ (at + 32 ≤ length (now a)) × (bt + sizeOf e ≤ length (now b)) × (to + 32 ≤ length (now out)) ⌝ }
+    ensures { λ r. ⌜ (r ≡ length (keep (halfHolds o (now (a .entry)) at (now (b .entry)) bt e) (from 0 256))) × (now (out .exit) ≡ written (now (out .entry)) to (block (halfHolds o (now (a .entry)) at (now (b .entry)) bt e))) ⌝ }
 {
-    let x = blocks::load(a, at, d);
-    let y = blocks::load(b, bt, e);
-    blocks::join(o, x, y)
+    if e < 32 {
+        let y = blocks::load_sparse(b, bt, e as usize);
+        return blocks::join(o, a, at, &y, 0, out, to);
+    }
+    blocks::join(o, a, at, b, bt, out, to)
 }
 
-// How many members two containers combined have; two empty ones are passed over.
-fn pair_count(o: Operation, a: &[u8], at: usize, d: u8, b: &[u8], bt: usize, e: u8) -> u32
-    requires { ⌜ (at + sizeOf d ≤ length (now a)) × (bt + sizeOf e ≤ length (now b)) ⌝ }
-    ensures { λ r. ⌜ (r ≡ length (pairMembers o (now (a .entry)) at d (now (b .entry)) bt e)) × (r ≤ 256) ⌝ }
+// Joins two containers, as a block at out[to], and says how many members it has.
+fn join_pair(
+    o: Operation,
+    a: &[u8],
+    at: usize,
+    d: u8,
+    b: &[u8],
+    bt: usize,
+    e: u8,
+    out: &mut [u8],
+    to: usize,
+) -> u32
+    requires { ⌜ (at + sizeOf d ≤ length (now a)) × (bt + sizeOf e ≤ length (now b)) × (to + 32 ≤ length (now out)) ⌝ }
+    ensures { λ r. ⌜ (r ≡ length (pairMembers o (now (a .entry)) at d (now (b .entry)) bt e)) × (now (out .exit) ≡ written (now (out .entry)) to (block (pairHolds o (now (a .entry)) at d (now (b .entry)) bt e))) ⌝ }
+{
+    if d < 32 {
+        let x = blocks::load_sparse(a, at, d as usize);
+        return join_second(o, &x, 0, b, bt, e, out, to);
+    }
+    join_second(o, a, at, b, bt, e, out, to)
+}
+
+// Whether the operation keeps what is in the first bitmap alone.
+fn keeps_first(o: Operation) -> bool
+    ensures { λ r. ⌜ r ≡ holds o true false ⌝ }
+{
+    match o {
+        Operation::Union => true,
+        Operation::Intersection => false,
+        Operation::Difference => true,
+        Operation::SymmetricDifference => true,
+    }
+}
+
+// Whether the operation keeps what is in the second bitmap alone.
+fn keeps_second(o: Operation) -> bool
+    ensures { λ r. ⌜ r ≡ holds o false true ⌝ }
+{
+    match o {
+        Operation::Union => true,
+        Operation::Intersection => false,
+        Operation::Difference => false,
+        Operation::SymmetricDifference => true,
+    }
+}
+
+// How many members a container has.
+fn members(s: &[u8], at: usize, d: u8) -> u32
+    requires { ⌜ at + sizeOf d ≤ length (now s) ⌝ }
+    ensures { λ r. ⌜ (r ≡ length (container (now (s .entry)) at d)) × (r ≤ 256) ⌝ }
+{
+    if d < 32 {
+        return d as u32;
+    }
+    bits::dense_count(s, at)
+}
+
+// Copies an accepted container to out[to] and on, and says how many members it has.
+fn put_copy(s: &[u8], at: usize, d: u8, out: &mut [u8], to: usize) -> u32
+    requires { ⌜ (at + sizeOf d ≤ length (now s)) × (containerOk (now s) at d ≡ true) × (to + 32 ≤ length (now out)) ⌝ }
+    ensures { λ r. ⌜ (r ≡ length (container (now (s .entry)) at d)) × (r ≤ 256) × (take (to + length (writeContainer (container (now (s .entry)) at d))) (now (out .exit)) ≡ take to (now (out .entry)) ++ writeContainer (container (now (s .entry)) at d)) ⌝ }
+{
+    byte_move::copy_part(s, at, judge::size_of(d), out, to);
+    members(s, at, d)
+}
+
+// Writes two containers combined, of which at least one is empty, from out[to] on, and says how many members they have.
+fn put_alone(
+    o: Operation,
+    a: &[u8],
+    at: usize,
+    d: u8,
+    b: &[u8],
+    bt: usize,
+    e: u8,
+    out: &mut [u8],
+    to: usize,
+) -> u32
+    requires { ⌜ (min d e ≡ 0) × (at + sizeOf d ≤ length (now a)) × (bt + sizeOf e ≤ length (now b)) × (to + 32 ≤ length (now out)) × (containerOk (now a) at d ≡ true) × (containerOk (now b) bt e ≡ true) ⌝ }
+    ensures { λ r. ⌜ (r ≡ length (pairMembers o (now (a .entry)) at d (now (b .entry)) bt e)) × (r ≤ 256)
+        × (take (to + length (writeContainer (pairMembers o (now (a .entry)) at d (now (b .entry)) bt e))) (now (out .exit)) ≡ take to (now (out .entry)) ++ writeContainer (pairMembers o (now (a .entry)) at d (now (b .entry)) bt e)) ⌝ }
+{
+    if e == 0 {
+        if keeps_first(o) {
+            return put_copy(a, at, d, out, to);
+        }
+        return 0;
+    }
+    if keeps_second(o) {
+        return put_copy(b, bt, e, out, to);
+    }
+    0
+}
+
+// The bit that a member of the first has in the second, where an operation keeps it that keeps no other.
+fn wanted(o: Operation) -> u8
+    ensures { λ r. ⌜ r ≡ wantOf o ⌝ }
+{
+    match o {
+        Operation::Union => 1,
+        Operation::Intersection => 1,
+        Operation::Difference => 0,
+        Operation::SymmetricDifference => 1,
+    }
+}
+
+// Copies those of the n bytes of s at `at` whose bit in the block of t at `start` is want to out[to] and on; says how
+// many.
+// Each is written, and the next one over it if it is not kept: no branch depends on a member.
+fn filter(
+    s: &[u8],
+    at: usize,
+    n: usize,
+    t: &[u8],
+    start: usize,
+    want: u8,
+    out: &mut [u8],
+    to: usize,
+) -> usize
+    requires { ⌜ (at + n ≤ length (now s)) × (start + 32 ≤ length (now t)) × (to + n ≤ length (now out)) ⌝ }
+    ensures { λ r. ⌜ (r ≡ length (kept (now (s .entry)) at n (now (t .entry)) start want)) × (r ≤ n) × (take (to + r) (now (out .exit)) ≡ take to (now (out .entry)) ++ kept (now (s .entry)) at n (now (t .entry)) start want) ⌝ }
+{
+    let mut m: usize = 0;
+    let mut i: usize = 0;
+    while i < n {
+        let x = s[at + i];
+        out[to + m] = x;
+        let z = bits::bit_of(t[start + (x / 8) as usize], (x % 8) as usize);
+        m += (z == want) as usize;
+        i += 1;
+    }
+    m
+}
+
+// Writes two containers combined, of which the first is sparse, by an operation that keeps members of the first alone.
+fn put_filtered(
+    o: Operation,
+    a: &[u8],
+    at: usize,
+    d: u8,
+    b: &[u8],
+    bt: usize,
+    e: u8,
+    out: &mut [u8],
+    to: usize,
+) -> u32
+    requires { ⌜ (d < 32) × (holds o false true ≡ false) × (at + sizeOf d ≤ length (now a)) × (bt + sizeOf e ≤ length (now b)) × (to + 32 ≤ length (now out)) × (containerOk (now a) at d ≡ true) ⌝ }
+    ensures { λ r. ⌜ (r ≡ length (pairMembers o (now (a .entry)) at d (now (b .entry)) bt e)) × (r ≤ 256)
+        × (take (to + length (writeContainer (pairMembers o (now (a .entry)) at d (now (b .entry)) bt e))) (now (out .exit)) ≡ take to (now (out .entry)) ++ writeContainer (pairMembers o (now (a .entry)) at d (now (b .entry)) bt e)) ⌝ }
+{
+    let w = wanted(o);
+    if e < 32 {
+        let y = blocks::load_sparse(b, bt, e as usize);
+        return filter(a, at, d as usize, &y, 0, w, out, to) as u32;
+    }
+    filter(a, at, d as usize, b, bt, w, out, to) as u32
+}
+
+// Writes two containers combined from out[to] on, and says how many members they have; the rest of the 32 bytes there
+// is left over.
+fn put_pair(
+    o: Operation,
+    a: &[u8],
+    at: usize,
+    d: u8,
+    b: &[u8],
+    bt: usize,
+    e: u8,
+    out: &mut [u8],
+    to: usize,
+) -> u32
+    requires { ⌜ (at + sizeOf d ≤ length (now a)) × (bt + sizeOf e ≤ length (now b)) × (to + 32 ≤ length (now out)) × (containerOk (now a) at d ≡ true) × (containerOk (now b) bt e ≡ true) ⌝ }
+    ensures { λ r. ⌜ (r ≡ length (pairMembers o (now (a .entry)) at d (now (b .entry)) bt e)) × (r ≤ 256)
+        × (take (to + length (writeContainer (pairMembers o (now (a .entry)) at d (now (b .entry)) bt e))) (now (out .exit)) ≡ take to (now (out .entry)) ++ writeContainer (pairMembers o (now (a .entry)) at d (now (b .entry)) bt e)) ⌝ }
 {
     if d == 0 {
         if e == 0 {
             return 0;
         }
+        return put_alone(o, a, at, d, b, bt, e, out, to);
     }
-    blocks::count(pair(o, a, at, d, b, bt, e))
+    if e == 0 {
+        return put_alone(o, a, at, d, b, bt, e, out, to);
+    }
+    if d < 32 {
+        if !keeps_second(o) {
+            return put_filtered(o, a, at, d, b, bt, e, out, to);
+        }
+    }
+    let c = join_pair(o, a, at, d, b, bt, e, out, to);
+    if c < 32 {
+        blocks::spread(out, to);
+        return c;
+    }
+    c
 }
 
 // The descriptor of a container with n members.
@@ -73,55 +278,47 @@ fn descriptor(n: u32) -> u8
     32
 }
 
-// Fills in the descriptors of the first n containers of the result, and says how many members they have.
-fn describe(
+// Goes on from container `start` to container n: fills in their descriptors, and puts their bytes from body[0] on.
+pub fn gather(
     o: Operation,
     a: &[u8],
-    da: &[u8; 8192],
+    da: &[u8],
     x: Side,
     b: &[u8],
-    db: &[u8; 8192],
+    db: &[u8],
     y: Side,
+    p: Reached,
+    start: usize,
     n: usize,
     ds: &mut [u8],
-) -> u32
-    requires { ⌜ Both (now a) (now da) x (now b) (now db) y × (n ≤ 8192) × (length (now ds) ≡ 8192) ⌝ }
-    ensures { λ r. ⌜ (r ≡ length (keep (λ z. mem z (result o (now (a .entry)) (now (da .entry)) x (now (b .entry)) (now (db .entry)) y)) (from 0 (n * 256)))) × (now (ds .exit) ≡ written (now (ds .entry)) 0 (descsTo (result o (now (a .entry)) (now (da .entry)) x (now (b .entry)) (now (db .entry)) y) n)) ⌝ }
+    body: &mut [u8],
+) -> Reached
+    requires { ⌜ Both (now a) (now da) x (now b) (now db) y × Reaches (result o (now a) (now da) x (now b) (now db) y) (now da) x (now db) y start p × (start ≤ n) × (n ≤ 8192) × (n ≤ length (now ds)) × Roomy (result o (now a) (now da) x (now b) (now db) y) start n (p .size) (length (now body)) ⌝ }
+    ensures { λ r. ⌜ Gathers (result o (now (a .entry)) (now (da .entry)) x (now (b .entry)) (now (db .entry)) y) (now (da .entry)) x (now (db .entry)) y start n p (now (ds .entry)) (now (ds .exit)) (now (body .exit)) r ⌝ }
 {
-    let mut at = x.start;
-    let mut bt = y.start;
-    let mut card: u32 = 0;
-    let mut k: usize = 0;
+    let mut at = p.at;
+    let mut bt = p.bt;
+    let mut card = p.card;
+    let mut t: usize = 0;
+    let mut k = start;
     while k < n {
         let d = descriptor_at(da, x.count, k);
         let e = descriptor_at(db, y.count, k);
-        let c = pair_count(o, a, at, d, b, bt, e);
-        ds[k] = descriptor(c);
+        let c = put_pair(o, a, at, d, b, bt, e, body, t);
+        let m = descriptor(c);
+        ds[k] = m;
         card += c;
+        t += m as usize;
         at += judge::size_of(d);
         bt += judge::size_of(e);
         k += 1;
     }
-    card
+    let size = p.size + t;
+    Reached { card, size, at, bt }
 }
 
-// How many descriptors are left where the last ones that are 0 are dropped.
-fn trim(ds: &[u8], n: usize) -> usize
-    requires { ⌜ n ≤ length (now ds) ⌝ }
-    ensures { λ r. ⌜ Trimmed (now (ds .entry)) n r ⌝ }
-{
-    let mut m = n;
-    while 0 < m {
-        if ds[m - 1] != 0 {
-            return m;
-        }
-        m -= 1;
-    }
-    m
-}
-
-// Writes two containers combined, whose descriptor is m, from out[to] on; an empty one takes no bytes.
-fn put_pair(
+// How many members two containers combined have; of room the first 32 bytes are written over.
+fn pair_count(
     o: Operation,
     a: &[u8],
     at: usize,
@@ -129,93 +326,55 @@ fn put_pair(
     b: &[u8],
     bt: usize,
     e: u8,
-    m: u8,
-    out: &mut [u8],
-    to: usize,
-) -> usize
-    requires { ⌜ (at + sizeOf d ≤ length (now a)) × (bt + sizeOf e ≤ length (now b)) × (m ≡ descriptorOf (pairMembers o (now a) at d (now b) bt e)) × (to + length (writeContainer (pairMembers o (now a) at d (now b) bt e)) ≤ length (now out)) ⌝ }
-    ensures { λ r. ⌜ (r ≡ length (writeContainer (pairMembers o (now (a .entry)) at d (now (b .entry)) bt e))) × (now (out .exit) ≡ written (now (out .entry)) to (writeContainer (pairMembers o (now (a .entry)) at d (now (b .entry)) bt e))) ⌝ }
+    room: &mut [u8],
+) -> u32
+    requires { ⌜ (at + sizeOf d ≤ length (now a)) × (bt + sizeOf e ≤ length (now b)) × (32 ≤ length (now room)) × (containerOk (now a) at d ≡ true) × (containerOk (now b) bt e ≡ true) ⌝ }
+    ensures { λ r. ⌜ r ≡ length (pairMembers o (now (a .entry)) at d (now (b .entry)) bt e) ⌝ }
 {
-    if m == 0 {
-        return 0;
+    if d == 0 {
+        if e == 0 {
+            return 0;
+        }
+        return put_alone(o, a, at, d, b, bt, e, room, 0);
     }
-    blocks::put_block(pair(o, a, at, d, b, bt, e), m, out, to)
+    if e == 0 {
+        return put_alone(o, a, at, d, b, bt, e, room, 0);
+    }
+    if d < 32 {
+        if !keeps_second(o) {
+            return put_filtered(o, a, at, d, b, bt, e, room, 0);
+        }
+    }
+    join_pair(o, a, at, d, b, bt, e, room, 0)
 }
 
-// Writes the containers of the result whose descriptors are ds, from out[to] on.
-fn put_pairs(
+// Fills in the descriptors of the first n containers of the result, whose bytes nobody keeps.
+pub fn describe(
     o: Operation,
     a: &[u8],
-    da: &[u8; 8192],
+    da: &[u8],
     x: Side,
     b: &[u8],
-    db: &[u8; 8192],
+    db: &[u8],
     y: Side,
-    ds: &[u8],
-    out: &mut [u8],
-    to: usize,
+    n: usize,
+    ds: &mut [u8],
+    room: &mut [u8],
 ) -> usize
-    requires { ⌜ Both (now a) (now da) x (now b) (now db) y × (length (now ds) ≤ 8192) × (now ds ≡ descsTo (result o (now a) (now da) x (now b) (now db) y) (length (now ds)))
-        × (to + length (writeContainers (map (cut (result o (now a) (now da) x (now b) (now db) y)) (from 0 (length (now ds))))) ≤ length (now out)) ⌝ }
-    ensures { λ r. ⌜ now (out .exit) ≡ written (now (out .entry)) to (writeContainers (map (cut (result o (now (a .entry)) (now (da .entry)) x (now (b .entry)) (now (db .entry)) y)) (from 0 (length (now (ds .entry)))))) ⌝ }
+    requires { ⌜ Both (now a) (now da) x (now b) (now db) y × (n ≤ 8192) × (n ≤ length (now ds)) × (32 ≤ length (now room)) ⌝ }
+    ensures { λ r. ⌜ now (ds .exit) ≡ written (now (ds .entry)) 0 (descsTo (result o (now (a .entry)) (now (da .entry)) x (now (b .entry)) (now (db .entry)) y) n) ⌝ }
 {
     let mut at = x.start;
     let mut bt = y.start;
-    let mut t: usize = 0;
     let mut k: usize = 0;
-    while k < ds.len() {
+    while k < n {
         let d = descriptor_at(da, x.count, k);
         let e = descriptor_at(db, y.count, k);
-        t += put_pair(o, a, at, d, b, bt, e, ds[k], out, to + t);
+        let c = pair_count(o, a, at, d, b, bt, e, room);
+        ds[k] = descriptor(c);
         at += judge::size_of(d);
         bt += judge::size_of(e);
         k += 1;
     }
-    t
-}
-
-// Writes the form of the result whose descriptors are ds and whose cardinality is card, or refuses for room.
-fn put_form(
-    o: Operation,
-    a: &[u8],
-    da: &[u8; 8192],
-    x: Side,
-    b: &[u8],
-    db: &[u8; 8192],
-    y: Side,
-    card: u32,
-    ds: &[u8],
-    out: &mut [u8],
-) -> Written
-    requires { ⌜ Both (now a) (now da) x (now b) (now db) y × Describes (result o (now a) (now da) x (now b) (now db) y) (length (now ds)) card (now ds) ⌝ }
-    ensures { λ r. ⌜ Gives (placed (form (result o (now (a .entry)) (now (da .entry)) x (now (b .entry)) (now (db .entry)) y)) (length (now (out .entry)))) (now (out .entry)) (now (out .exit)) r ⌝ }
-{
-    let len = form_write::form_size(ds);
-    if out.len() < len {
-        return Written::Refused(13);
-    }
-    let to = form_write::put_head(ds, card, out);
-    put_pairs(o, a, da, x, b, db, y, ds, out, to);
-    Written::Length(len)
-}
-
-// Writes the form of two judged bitmaps combined, or refuses for room.
-pub fn put_combined(
-    o: Operation,
-    a: &[u8],
-    da: &[u8; 8192],
-    x: Side,
-    b: &[u8],
-    db: &[u8; 8192],
-    y: Side,
-    out: &mut [u8],
-) -> Written
-    requires { ⌜ Both (now a) (now da) x (now b) (now db) y ⌝ }
-    ensures { λ r. ⌜ Gives (placed (form (result o (now (a .entry)) (now (da .entry)) x (now (b .entry)) (now (db .entry)) y)) (length (now (out .entry)))) (now (out .entry)) (now (out .exit)) r ⌝ }
-{
-    let mut ds = [0u8; 8192];
-    let n = larger(x.count, y.count);
-    let card = describe(o, a, da, x, b, db, y, n, &mut ds);
-    let m = trim(&ds, n);
-    put_form(o, a, da, x, b, db, y, card, &ds[..m], out)
+    k
 }

@@ -12,7 +12,8 @@ use Rattle.bitmap_list.proofs.byte_members.Statement.{statement}
 use Rattle.bitmap_list.proofs.byte_members.Tie as tie
 
 abbrev Inv-loop : tie.InvT-loop
-Inv-loop s at q out₀ n b m₀ i₀ out m i = (i ≤ 8) × (b ≡ getD s (at + q) 0) × (length out ≡ length out₀) × Spread s at out m (q * 8 + i)
+Inv-loop s at q out₀ n b m₀ i₀ out m i =
+    (i ≤ 8) × (b ≡ getD s (at + q) 0) × (length out ≡ length out₀) × Spread s at out m (q * 8 + i)
 
 abbrev μ-loop : tie.MeasureT-loop
 μ-loop s at q out₀ n b m₀ i₀ out m i = 8 - i
@@ -24,7 +25,10 @@ shared-slice-read-b : tie.Need-shared-slice-read-b Inv-loop μ-loop
 shared-slice-read-b c = search needs
 
 loop-holds : tie.Need-loop-holds Inv-loop μ-loop
-loop-holds c = (omega arith, refl, refl, rw (add-zero (c .before .before .before .args .q * 8)) (c .before .before .before .pre .2))
+loop-holds c =
+    let args = c .before .before .before .args in
+    let pre = c .before .before .before .pre in
+    (omega arith, refl, refl, rw (add-zero (args .q * 8)) (pre .2))
 
 mul-out : tie.Need-mul-out Inv-loop μ-loop
 mul-out c = search needs
@@ -36,7 +40,10 @@ cast-out : tie.Need-cast-out Inv-loop μ-loop
 cast-out c = search needs
 
 slice-write-out : tie.Need-slice-write-out Inv-loop μ-loop
-slice-write-out c = omega (arith, c .before .loop .inv .3 .less, c .before .loop .inv .3 .long, c .loop-test .taken, c .before .before .before .before .before .pre .1)
+slice-write-out c =
+    let pre = c .before .before .before .before .before .pre in
+    let inv = c .before .loop .inv in
+    omega (arith, inv .3 .less, inv .3 .long, c .loop-test .taken, pre .1)
 
 bit-of-requires : tie.Need-bit-of-requires Inv-loop μ-loop
 bit-of-requires c κs = search needs
@@ -57,8 +64,15 @@ loop-again : tie.Need-loop-again Inv-loop μ-loop
 loop-again c =
     let a = c .before .before .before .before .before .before .args in
     let l = c .before .before .loop in
-    let e : a .q * 8 + (l .i + 1) ≡ a .q * 8 + l .i + 1 = omega arith in
-    (omega arith, refl, length-set (l .out) (l .m) _ ∙ l .inv .2, rw e (spread-bit (a .s .now) (a .at) (l .out) (l .m) (a .q * 8 + l .i) (l .inv .3) (a .q) (l .i) _ (c .before .before .before .before .before .before .pre .1) (c .before .loop-test .taken) refl (c .bit-of .ensures)))
+    let e : a .q * 8 + (l .i + 1) ≡ a .q * 8 + l .i + 1 = omega arith in (
+      omega arith,
+      refl,
+      length-set (l .out) (l .m) _ ∙ l .inv .2,
+      rw e
+          (spread-bit (a .s .now) (a .at) (l .out) (l .m) (a .q * 8 + l .i) (l .inv .3) (a .q) (l .i) _
+          (c .before .before .before .before .before .before .pre .1) (c .before .loop-test .taken) refl
+          (c .bit-of .ensures)),
+    )
 
 same-length : tie.Need-same-length Inv-loop μ-loop
 same-length c = c .before .loop .inv .2

@@ -11,11 +11,15 @@ use Rattle.bitmap_list.proofs.decode.Tie as tie
 
 returns : tie.Need-returns
 returns c =
-    let a = c .before .before .args in
-    (sparse-count (a .s .now) (a .at) (a .d) (c .if1 .taken) (omega (arith, size-sparse (a .d) (c .if1 .taken))), λ h. absurd (omega (arith, c .if1 .taken)))
+    let a = c .before .before .args in (
+      sparse-count (a .s .now) (a .at) (a .d) (c .if1 .taken) (omega (arith, size-sparse (a .d) (c .if1 .taken))),
+      λ h. absurd (omega (arith, c .if1 .taken)),
+    )
 
 dense-members-requires : tie.Need-dense-members-requires
-dense-members-requires c κs = (omega (arith, size-dense (c .before .before .before .args .d) (c .before .if1 .left)), omega (arith, c .dense-members-arg .given))
+dense-members-requires c κs =
+    let args = c .before .before .before .args in
+    (omega (arith, size-dense (args .d) (c .before .if1 .left)), omega (arith, c .dense-members-arg .given))
 
 returns-2 : tie.Need-returns-2
 returns-2 c =

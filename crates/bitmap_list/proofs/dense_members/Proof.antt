@@ -17,10 +17,14 @@ abbrev μ-loop : tie.MeasureT-loop
 μ-loop s at out₀ n₀ q₀ out n q = 32 - q
 
 loop-holds : tie.Need-loop-holds Inv-loop μ-loop
-loop-holds c = (omega arith, refl, spread-none (c .before .before .args .s .now) (c .before .before .args .at) (c .before .before .args .out .now) (c .before .before .pre .1))
+loop-holds c =
+    let args = c .before .before .args in
+    (omega arith, refl, spread-none (args .s .now) (args .at) (args .out .now) (c .before .before .pre .1))
 
 byte-members-requires : tie.Need-byte-members-requires Inv-loop μ-loop
-byte-members-requires c κs = (c .before .before .before .before .before .pre .0, c .before .loop-test .taken, c .before .before .loop .inv .2)
+byte-members-requires c κs =
+    let pre = c .before .before .before .before .before .pre in
+    (pre .0, c .before .loop-test .taken, c .before .before .loop .inv .2)
 
 add-q : tie.Need-add-q Inv-loop μ-loop
 add-q c = search needs
@@ -30,14 +34,20 @@ loop-less c = omega arith
 
 loop-again : tie.Need-loop-again Inv-loop μ-loop
 loop-again c =
-    let e : (c .before .before .before .before .before .loop .q + 1) * 8 ≡ c .before .before .before .before .before .loop .q * 8 + 8 = omega arith in
-    (omega arith, c .before .before .byte-members .kept .1 .1 .1 .0 ∙ c .before .before .before .before .before .loop .inv .1, rw e (c .before .before .byte-members .ensures))
+    let loop = c .before .before .before .before .before .loop in
+    let byte-members = c .before .before .byte-members in
+    let e : (loop .q + 1) * 8 ≡ loop .q * 8 + 8 = omega arith in
+    (omega arith, byte-members .kept .1 .1 .1 .0 ∙ loop .inv .1, rw e (byte-members .ensures))
 
 same-length : tie.Need-same-length Inv-loop μ-loop
 same-length c = c .before .loop .inv .1
 
 returns : tie.Need-returns Inv-loop μ-loop
-returns c = spread-all (c .before .before .before .before .args .s .now) (c .before .before .before .before .args .at) (c .before .loop .out) (c .before .loop .n) (c .before .loop .q * 8) (c .before .loop .inv .2) (omega (arith, c .loop-test .left))
+returns c =
+    let args = c .before .before .before .before .args in
+    let loop = c .before .loop in
+    spread-all (args .s .now) (args .at) (loop .out) (loop .n) (loop .q * 8) (loop .inv .2)
+    (omega (arith, c .loop-test .left))
 
 pub dense-members-spec : {M : Type 1} → statement M
 dense-members-spec =

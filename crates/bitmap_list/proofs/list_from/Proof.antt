@@ -12,30 +12,44 @@ cast-k : tie.Need-cast-k
 cast-k c = search needs
 
 -- the first container that is not wholly below the place, or the end
-near : (c : tie.Joined1) → (c .if1 .first ≤ c .before .before .before .args .n) × (c .if1 .first * 256 ≤ c .before .before .before .args .place)
+near : (c : tie.Joined1)
+    → (c .if1 .first ≤ c .before .before .before .before .args .n) ×
+    (c .if1 .first * 256 ≤ c .before .before .before .before .args .place)
 near c = ⊎-elim (λ w. (omega arith, omega arith)) (λ w. (omega arith, omega arith)) (c .if1 .came)
 
 sizes-requires : tie.Need-sizes-requires
 sizes-requires c κs =
-    let f = near (c .before) in
-    (omega (arith, f, c .before .before .before .before .pre .few), omega (arith, f, c .before .before .before .before .pre .few, c .before .before .before .before .pre .long))
+    let pre = c .before .before .before .before .pre in
+    let f = near c in
+    (omega (arith, f, pre .few), omega (arith, f, pre .few, pre .long))
 
 add-from : tie.Need-add-from
 add-from c = search needs
 
 fill-page-requires : tie.Need-fill-page-requires
 fill-page-requires c κs =
-    let f = near (c .before .before .before) in
-    (c .before .before .before .before .before .before .pre .few, rw (c .before .sizes .ensures .0) (skip-walk (c .before .before .before .before .before .before .args .s .now) (c .before .before .before .before .before .before .args .d .now) (c .before .before .before .before .before .before .args .n) (c .before .before .before .before .before .before .args .start) (c .before .before .before .before .before .before .args .place) (c .before .before .before .if1 .first) (c .before .before .before .before .before .before .pre) (f .0) (f .1)))
+    let args = c .before .before .before .before .before .before .args in
+    let pre = c .before .before .before .before .before .before .pre in
+    let f = near (c .before .before) in (
+      pre .few,
+      rw (c .before .sizes .ensures .0)
+          (skip-walk (args .s .now) (args .d .now) (args .n) (args .start) (args .place)
+          (c .before .before .if1 .first) (pre) (f .0) (f .1)),
+    )
 
 same-length : tie.Need-same-length
 same-length c = search needs
 
 returns : tie.Need-returns
 returns c =
-    let f = near (c .before .before .before .before .before .before) in
-    let e = skip-is (c .before .before .before .before .before .before .before .before .before .args .s .now) (c .before .before .before .before .before .before .before .before .before .args .d .now) (c .before .before .before .before .before .before .before .before .before .args .n) (c .before .before .before .before .before .before .before .before .before .args .start) (c .before .before .before .before .before .before .before .before .before .args .place) (c .before .before .before .before .before .before .if1 .first) (c .before .before .before .before .before .before .before .before .before .pre) (f .0) (f .1) in
-    rw (e, ← c .before .before .before .before .sizes .ensures .0) (c .before .before .fill-page .ensures)
+    let args = c .before .before .before .before .before .before .before .before .before .args in
+    let pre = c .before .before .before .before .before .before .before .before .before .pre in
+    let if1 = c .before .before .before .before .before .if1 in
+    let sizes = c .before .before .before .before .sizes in
+    let f = near (c .before .before .before .before .before) in
+    let e = skip-is (args .s .now) (args .d .now) (args .n) (args .start) (args .place) (if1 .first) (pre) (f .0) (f .1)
+    in
+    rw (e, ← sizes .ensures .0) (c .before .before .fill-page .ensures)
 
 pub list-from-spec : {M : Type 1} → statement M
 list-from-spec =

@@ -25,13 +25,20 @@ returns : tie.Need-returns
 returns c =
     let a = c .before .before .args in
     let h : a .at + a .d ≤ length (a .s .now) = omega (arith, size-sparse (a .d) (c .before .if1 .taken), c .before .before .pre .0) in
-    sparse-member (a .s .now) (a .at) (a .d) (a .j) (c .before .if1 .taken) (omega (arith, sparse-count (a .s .now) (a .at) (a .d) (c .before .if1 .taken) h, c .before .before .pre .1))
+    sparse-member (a .s .now) (a .at) (a .d) (a .j) (c .before .if1 .taken)
+    (omega (arith, sparse-count (a .s .now) (a .at) (a .d) (c .before .if1 .taken) h, c .before .before .pre .1))
 
 element-copy-out-result : tie.Need-element-copy-out-result
-element-copy-out-result c = omega (arith, few (c .before .args .s .now) (c .before .args .at) (c .before .args .d) (c .before .pre .0), c .before .pre .1)
+element-copy-out-result c =
+    let args = c .before .args in
+    let pre = c .before .pre in
+    omega (arith, few (args .s .now) (args .at) (args .d) (pre .0), pre .1)
 
 returns-2 : tie.Need-returns-2
-returns-2 c = dense-member (c .before .before .args .s .now) (c .before .before .args .at) (c .before .before .args .d) (c .before .before .args .j) (c .before .before .args .out .now) (c .before .if1 .left) (c .before .before .pre .2) (c .before .before .pre .1)
+returns-2 c =
+    let args = c .before .before .args in
+    let pre = c .before .before .pre in
+    dense-member (args .s .now) (args .at) (args .d) (args .j) (args .out .now) (c .before .if1 .left) (pre .2) (pre .1)
 
 pub member-spec : {M : Type 1} → statement M
 member-spec =

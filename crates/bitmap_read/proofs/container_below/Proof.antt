@@ -13,13 +13,19 @@ listed-below-requires : tie.Need-listed-below-requires
 listed-below-requires c κs = omega (arith, size-sparse (c .before .before .args .d) (c .if1 .taken))
 
 returns : tie.Need-returns
-returns c = c .listed-below .ensures ∙ ap (ask.below (c .before .before .before .args .j)) (sparse-is (c .before .before .before .args .s .now) (c .before .before .before .args .at) (c .before .before .before .args .d) (c .before .if1 .taken))
+returns c =
+    let args = c .before .before .before .args in
+    c .listed-below .ensures ∙ ap (ask.below (args .j))
+    (sparse-is (args .s .now) (args .at) (args .d) (c .before .if1 .taken))
 
 dense-below-requires : tie.Need-dense-below-requires
 dense-below-requires c κs = omega (arith, size-dense (c .before .before .args .d) (c .if1 .left))
 
 returns-2 : tie.Need-returns-2
-returns-2 c = c .dense-below .ensures ∙ ap (ask.below (c .before .before .before .args .j)) (dense-is (c .before .before .before .args .s .now) (c .before .before .before .args .at) (c .before .before .before .args .d) (c .before .if1 .left))
+returns-2 c =
+    let args = c .before .before .before .args in
+    c .dense-below .ensures ∙ ap (ask.below (args .j))
+    (dense-is (args .s .now) (args .at) (args .d) (c .before .if1 .left))
 
 pub container-below-spec : {M : Type 1} → statement M
 container-below-spec =

@@ -10,13 +10,18 @@ use Rattle.bitmap_read.proofs.container_count.Statement.{statement}
 use Rattle.bitmap_read.proofs.container_count.Tie as tie
 
 returns : tie.Need-returns
-returns c = sparse-count (c .before .before .args .s .now) (c .before .before .args .at) (c .before .before .args .d) (c .if1 .taken) (omega (arith, size-sparse (c .before .before .args .d) (c .if1 .taken)))
+returns c =
+    let args = c .before .before .args in
+    sparse-count (args .s .now) (args .at) (args .d) (c .if1 .taken)
+    (omega (arith, size-sparse (args .d) (c .if1 .taken)))
 
 dense-count-requires : tie.Need-dense-count-requires
 dense-count-requires c κs = omega (arith, size-dense (c .before .before .args .d) (c .if1 .left))
 
 returns-2 : tie.Need-returns-2
-returns-2 c = c .dense-count .ensures ∙ ap length (dense-is (c .before .before .before .args .s .now) (c .before .before .before .args .at) (c .before .before .before .args .d) (c .before .if1 .left))
+returns-2 c =
+    let args = c .before .before .before .args in
+    c .dense-count .ensures ∙ ap length (dense-is (args .s .now) (args .at) (args .d) (c .before .if1 .left))
 
 pub container-count-spec : {M : Type 1} → statement M
 container-count-spec = tie.close (tie.spec returns dense-count-requires returns-2)

@@ -15,19 +15,26 @@ listed-requires : tie.Need-listed-requires
 listed-requires c κs = omega (arith, size-sparse (c .before .before .args .d) (c .if1 .taken))
 
 returns : tie.Need-returns
-returns c = c .listed .ensures ∙ ap (mem (c .before .before .before .args .j)) (sparse-is (c .before .before .before .args .s .now) (c .before .before .before .args .at) (c .before .before .before .args .d) (c .before .if1 .taken))
+returns c =
+    let args = c .before .before .before .args in
+    c .listed .ensures ∙ ap (mem (args .j)) (sparse-is (args .s .now) (args .at) (args .d) (c .before .if1 .taken))
 
 add-bit-of : tie.Need-add-bit-of
 add-bit-of c = search needs
 
 shared-slice-read-bit-of : tie.Need-shared-slice-read-bit-of
-shared-slice-read-bit-of c = omega (arith, size-dense (c .before .before .before .args .d) (c .before .if1 .left))
+shared-slice-read-bit-of c =
+    let args = c .before .before .before .args in
+    omega (arith, size-dense (args .d) (c .before .if1 .left))
 
 bit-of-requires : tie.Need-bit-of-requires
 bit-of-requires c κs = search needs
 
 returns-2 : tie.Need-returns-2
-returns-2 c = ap (λ (b : ℕ). eqb b 1) (c .bit-of .ensures) ∙ dense-has (c .before .before .before .before .args .s .now) (c .before .before .before .before .args .at) (c .before .before .before .before .args .d) (c .before .before .before .before .args .j) (c .before .before .if1 .left) (omega arith)
+returns-2 c =
+    let args = c .before .before .before .before .args in
+    ap (λ (b : ℕ). eqb b 1) (c .bit-of .ensures) ∙ dense-has (args .s .now) (args .at) (args .d) (args .j)
+    (c .before .before .if1 .left) (omega arith)
 
 pub container-has-spec : {M : Type 1} → statement M
 container-has-spec =

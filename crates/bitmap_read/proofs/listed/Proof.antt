@@ -27,10 +27,17 @@ shared-slice-read-if1 : tie.Need-shared-slice-read-if1 Inv-loop μ-loop
 shared-slice-read-if1 c = search needs
 
 cast-if1 : tie.Need-cast-if1 Inv-loop μ-loop
-cast-if1 c = omega (arith, c .shared-slice-known .given (c .before .before .before .args .at + c .before .before .loop .i))
+cast-if1 c =
+    let args = c .before .before .before .args in
+    omega (arith, c .shared-slice-known .given (args .at + c .before .before .loop .i))
 
 returns : tie.Need-returns Inv-loop μ-loop
-returns c = sym (sym (c .before .before .before .loop .inv .1) ∙ mem-hit (c .before .before .before .before .args .s .now) (c .before .before .before .before .args .at) (c .before .before .before .before .args .n) (c .before .before .before .loop .i) (c .before .before .before .before .args .j) (c .before .before .loop-test .taken) (omega arith) (c .if1 .taken))
+returns c =
+    let args = c .before .before .before .before .args in
+    let loop = c .before .before .before .loop in
+    sym
+    (sym (loop .inv .1) ∙ mem-hit (args .s .now) (args .at) (args .n) (loop .i) (args .j)
+    (c .before .before .loop-test .taken) (omega arith) (c .if1 .taken))
 
 add-i : tie.Need-add-i Inv-loop μ-loop
 add-i c = search needs
@@ -39,10 +46,21 @@ loop-less : tie.Need-loop-less Inv-loop μ-loop
 loop-less c = search needs
 
 loop-again : tie.Need-loop-again Inv-loop μ-loop
-loop-again c = (omega arith, sym (mem-miss (c .before .before .before .before .args .s .now) (c .before .before .before .before .args .at) (c .before .before .before .before .args .n) (c .before .before .before .loop .i) (c .before .before .before .before .args .j) (c .before .before .loop-test .taken) (omega arith) (c .if1 .left)) ∙ c .before .before .before .loop .inv .1)
+loop-again c =
+    let args = c .before .before .before .before .args in
+    let loop = c .before .before .before .loop in (
+      omega arith,
+      sym
+          (mem-miss (args .s .now) (args .at) (args .n) (loop .i) (args .j) (c .before .before .loop-test .taken)
+          (omega arith) (c .if1 .left))
+          ∙ loop .inv .1,
+    )
 
 returns-2 : tie.Need-returns-2 Inv-loop μ-loop
-returns-2 c = sym (sym (c .before .loop .inv .1) ∙ mem-end (c .before .before .args .s .now) (c .before .before .args .at) (c .before .before .args .n) (c .before .loop .i) (c .before .before .args .j) (c .loop-test .left))
+returns-2 c =
+    let args = c .before .before .args in
+    let loop = c .before .loop in
+    sym (sym (loop .inv .1) ∙ mem-end (args .s .now) (args .at) (args .n) (loop .i) (args .j) (c .loop-test .left))
 
 pub listed-spec : {M : Type 1} → statement M
 listed-spec =

@@ -13,7 +13,8 @@ use Rattle.bitmap_read.proofs.listed_below.Statement.{statement}
 use Rattle.bitmap_read.proofs.listed_below.Tie as tie
 
 abbrev Inv-loop : tie.InvT-loop
-Inv-loop s at n j below₀ i₀ below i = (i ≤ n) × (below ≤ i) × (below + ask.below j (take (n - i) (drop (at + i) s)) ≡ ask.below j (take n (drop at s)))
+Inv-loop s at n j below₀ i₀ below i =
+    (i ≤ n) × (below ≤ i) × (below + ask.below j (take (n - i) (drop (at + i) s)) ≡ ask.below j (take n (drop at s)))
 
 abbrev μ-loop : tie.MeasureT-loop
 μ-loop s at n j below₀ i₀ below i = n - i
@@ -28,7 +29,9 @@ shared-slice-read-if1 : tie.Need-shared-slice-read-if1 Inv-loop μ-loop
 shared-slice-read-if1 c = search needs
 
 cast-if1 : tie.Need-cast-if1 Inv-loop μ-loop
-cast-if1 c = omega (arith, c .shared-slice-known .given (c .before .before .before .args .at + c .before .before .loop .i))
+cast-if1 c =
+    let args = c .before .before .before .args in
+    omega (arith, c .shared-slice-known .given (args .at + c .before .before .loop .i))
 
 add-below : tie.Need-add-below Inv-loop μ-loop
 add-below c = search needs
@@ -43,11 +46,15 @@ loop-again : tie.Need-loop-again Inv-loop μ-loop
 loop-again c =
     let a = c .before .before .before .before .args in
     let l = c .before .before .before .loop in
-    ⊎-elim (λ w. omega (arith, below-on (a .s .now) (a .at) (a .n) (l .i) (a .j) (omega arith) (omega arith) (w .0 .taken)))
-    (λ w. omega (arith, below-off (a .s .now) (a .at) (a .n) (l .i) (a .j) (omega arith) (omega arith) (w .0 .left))) (c .if1 .came)
+    ⊎-elim
+    (λ w. omega (arith, below-on (a .s .now) (a .at) (a .n) (l .i) (a .j) (omega arith) (omega arith) (w .0 .taken)))
+    (λ w. omega (arith, below-off (a .s .now) (a .at) (a .n) (l .i) (a .j) (omega arith) (omega arith) (w .0 .left)))
+    (c .if1 .came)
 
 returns : tie.Need-returns Inv-loop μ-loop
-returns c = omega (arith, below-end (c .before .before .args .s .now) (c .before .before .args .at) (c .before .before .args .n) (c .before .loop .i) (c .before .before .args .j) (c .loop-test .left))
+returns c =
+    let args = c .before .before .args in
+    omega (arith, below-end (args .s .now) (args .at) (args .n) (c .before .loop .i) (args .j) (c .loop-test .left))
 
 pub listed-below-spec : {M : Type 1} → statement M
 listed-below-spec =

@@ -1,42 +1,38 @@
--- The judgement's refusal, or membership in the set that it lends a view of.
+-- Either array has room for the descriptors that the header announces.
 -- Assumes nothing.
-use mathlib.Core.Path.{ap, _∙_}
-use Prim.Native.Nat.{_-_}
 use borrow.Author.Needs.{needs}
-use Rattle.common.specs.Outcome.{found}
-use Rattle.common.specs.Lists.{mem}
-use Rattle.bitmap_spec.specs.Ask.{probe}
-use Rattle.judge.proofs.Judging.{told-refused, told-accepted, viewed-is, view-own}
 use Rattle.bitmap_read.proofs.probe.Statement.{statement}
 use Rattle.bitmap_read.proofs.probe.Tie as tie
 
-judge-into-requires : tie.Need-judge-into-requires
-judge-into-requires c κs = search needs
+is-small-requires : tie.Need-is-small-requires
+is-small-requires c κs = search needs
 
-enum-known-r : tie.Need-enum-known-r
-enum-known-r c = search needs
+slice-aggregate-probe-in : tie.Need-slice-aggregate-probe-in
+slice-aggregate-probe-in c = search needs
 
-enum-known-count : tie.Need-enum-known-count
-enum-known-count c = search needs
-
-set-has-requires : tie.Need-set-has-requires
-set-has-requires c κs =
-    let t = told-accepted (c .before .before .before .before .before .before .before .args .s .now) _ _ (c .before .before .before .before .judge-into .ensures) _ _ _ (c .before .before .count .given .1) in
-    view-own (c .before .before .before .before .before .before .before .args .s .now) _ _ _ (t .0) (t .3)
+probe-in-requires : tie.Need-probe-in-requires
+probe-in-requires c κs = λ long few. c .before .before .is-small .ensures (c .before .if1 .taken) long
 
 returns : tie.Need-returns
-unfolding probe
-returns c =
-    let e = told-refused (c .before .before .before .before .before .before .args .s .now) _ _ (c .before .before .before .judge-into .ensures) _ (c .before .r .given .1) in
-    rw e
+returns c = search needs
+
+slice-aggregate-probe-in-2 : tie.Need-slice-aggregate-probe-in-2
+slice-aggregate-probe-in-2 c = search needs
+
+probe-in-requires-2 : tie.Need-probe-in-requires-2
+probe-in-requires-2 c κs = search needs
 
 returns-2 : tie.Need-returns-2
-unfolding probe
-returns-2 c =
-    let t = told-accepted (c .before .before .before .before .before .before .before .before .args .s .now) _ _ (c .before .before .before .before .before .judge-into .ensures) _ _ _ (c .before .before .before .count .given .1) in
-    rw (t .1) (ap found (c .set-has .ensures ∙ ap (mem (c .before .before .before .before .before .before .before .before .args .position)) (viewed-is (c .before .before .before .before .before .before .before .before .args .s .now) _ _ _ (t .0) (t .3))))
+returns-2 c = search needs
 
 pub probe-spec : {M : Type 1} → statement M
 probe-spec =
     tie.close
-    (tie.spec judge-into-requires enum-known-r enum-known-count set-has-requires returns returns-2)
+    (tie.spec
+    is-small-requires
+    slice-aggregate-probe-in
+    probe-in-requires
+    returns
+    slice-aggregate-probe-in-2
+    probe-in-requires-2
+    returns-2)

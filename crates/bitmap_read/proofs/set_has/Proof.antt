@@ -15,7 +15,10 @@ cast-k : tie.Need-cast-k
 cast-k c = search needs
 
 returns : tie.Need-returns
-returns c = sym (set-past (c .before .before .args .s .now) (c .before .before .args .d .now) (c .before .before .args .n) (c .before .before .args .start) (c .before .before .pre) (c .before .before .args .position) (c .if1 .taken))
+returns c =
+    let args = c .before .before .before .args in
+    let pre = c .before .before .before .pre in
+    sym (set-past (args .s .now) (args .d .now) (args .n) (args .start) (pre) (args .position) (c .if1 .taken))
 
 sizes-requires : tie.Need-sizes-requires
 sizes-requires c κs = search needs
@@ -23,17 +26,33 @@ sizes-requires c κs = search needs
 add-at : tie.Need-add-at
 add-at c = search needs
 
-element-copy-out-container-has : tie.Need-element-copy-out-container-has
-element-copy-out-container-has c = search needs
+shared-slice-read-container-has : tie.Need-shared-slice-read-container-has
+shared-slice-read-container-has c = search needs
 
 container-has-requires : tie.Need-container-has-requires
-container-has-requires c κs = (omega (arith, c .before .sizes .ensures .0, set-room (c .before .before .before .before .before .args .s .now) (c .before .before .before .before .before .args .d .now) (c .before .before .before .before .before .args .n) (c .before .before .before .before .before .args .start) (c .before .before .before .before .before .pre) (c .before .before .before .before .before .args .position / 256) (c .before .before .before .if1 .left)), omega arith)
+container-has-requires c κs =
+    let args = c .before .before .before .before .before .args in
+    let pre = c .before .before .before .before .before .pre in (
+      omega (
+        arith,
+        c .before .sizes .ensures .0,
+        set-room (args .s .now) (args .d .now) (args .n) (args .start) (pre) (args .position / 256)
+            (c .before .before .if1 .left),
+      ),
+      omega arith,
+    )
 
 returns-2 : tie.Need-returns-2
 returns-2 c =
-    c .container-has .ensures
-    ∙ ap (λ (k : ℕ). mem (c .before .before .before .before .before .before .args .position % 256) (container (c .before .before .before .before .before .before .args .s .now) (c .before .before .before .before .before .before .args .start + k) (getD (c .before .before .before .before .before .before .args .d .now) (c .before .before .before .before .before .before .args .position / 256) 0))) (c .before .before .sizes .ensures .0)
-    ∙ sym (set-at (c .before .before .before .before .before .before .args .s .now) (c .before .before .before .before .before .before .args .d .now) (c .before .before .before .before .before .before .args .n) (c .before .before .before .before .before .before .args .start) (c .before .before .before .before .before .before .pre) (c .before .before .before .before .before .before .args .position) (c .before .before .before .before .if1 .left))
+    let args = c .before .before .before .before .before .before .args in
+    let pre = c .before .before .before .before .before .before .pre in
+    let if1 = c .before .before .before .if1 in
+    c .container-has .ensures ∙ ap
+    (λ (k : ℕ).
+    mem (args .position % 256)
+    (container (args .s .now) (args .start + k) (getD (args .d .now) (args .position / 256) 0)))
+    (c .before .before .sizes .ensures .0) ∙ sym
+    (set-at (args .s .now) (args .d .now) (args .n) (args .start) (pre) (args .position) (if1 .left))
 
 pub set-has-spec : {M : Type 1} → statement M
 set-has-spec =
@@ -43,6 +62,6 @@ set-has-spec =
     returns
     sizes-requires
     add-at
-    element-copy-out-container-has
+    shared-slice-read-container-has
     container-has-requires
     returns-2)

@@ -1,72 +1,60 @@
--- The invariant: each byte passed is joined; a byte joined is its bits joined.
+-- The block's two halves, joined one after the other.
 -- Assumes nothing.
 use borrow.Author.Needs.{needs}
-use mathlib.Core.Path.{_≡_, refl}
-use Prim.Native.Nat.{ℕ, _-_, _≤_, _<_}
-use native.Mathlib.Omega.{arith}
-use lib.ListN.{length, getD}
-use borrow.Author.Count.{below-none}
-use lib.ListN.{length-set}
-use Rattle.blocks.proofs.Digits.{joined-is, set-more}
+use Rattle.blocks.proofs.Digits.{both-halves}
 use Rattle.blocks.proofs.join.Statement.{statement}
-use Rattle.blocks.specs.Block.{byteOf}
-use mir.Val.{Fits}
-use mir.Syntax.{w8}
 use Rattle.blocks.proofs.join.Tie as tie
 
-abbrev Inv-loop : tie.InvT-loop
-Inv-loop o a b r₀ i₀ r i = (i ≤ 32) × (length r ≡ 32) × ((k : ℕ) → k < i → getD r k 0 ≡ byteOf o (getD a k 0) (getD b k 0))
+masks-of-requires : tie.Need-masks-of-requires
+masks-of-requires c κs = search needs
 
-abbrev μ-loop : tie.MeasureT-loop
-μ-loop o a b r₀ i₀ r i = 32 - i
+join16-requires : tie.Need-join16-requires
+join16-requires c κs = search needs
 
-loop-holds : tie.Need-loop-holds Inv-loop μ-loop
-loop-holds c = (omega arith, refl, below-none _)
+add-join16 : tie.Need-add-join16
+add-join16 c = search needs
 
-array-read-x : tie.Need-array-read-x Inv-loop μ-loop
-array-read-x c = search needs
+add-join16-2 : tie.Need-add-join16-2
+add-join16-2 c = search needs
 
-array-read-y : tie.Need-array-read-y Inv-loop μ-loop
-array-read-y c = search needs
+add-join16-3 : tie.Need-add-join16-3
+add-join16-3 c = search needs
 
-byte-requires : tie.Need-byte-requires Inv-loop μ-loop
-byte-requires c κs = search needs
+join16-requires-2 : tie.Need-join16-requires-2
+join16-requires-2 c κs = search needs
 
-array-write-r : tie.Need-array-write-r Inv-loop μ-loop
-array-write-r c = search needs
+cast-result : tie.Need-cast-result
+cast-result c = search needs
 
-add-i : tie.Need-add-i Inv-loop μ-loop
-add-i c = search needs
+cast-result-2 : tie.Need-cast-result-2
+cast-result-2 c = search needs
 
-loop-less : tie.Need-loop-less Inv-loop μ-loop
-loop-less c = search needs
+add-result : tie.Need-add-result
+add-result c = search needs
 
-loop-again : tie.Need-loop-again Inv-loop μ-loop
-loop-again c =
-    let a = c .before .before .before .args in
-    let l = c .before .before .loop in
-    (omega arith, simp length-set (l .inv .1), set-more (λ k. byteOf (a .o) (getD (a .t2) k 0) (getD (a .t3) k 0)) (l .r) (l .i) _ (omega arith) (c .byte .ensures) (l .inv .2))
+same-length : tie.Need-same-length
+same-length c = search needs
 
-returns : tie.Need-returns Inv-loop μ-loop
+returns : tie.Need-returns
 returns c =
-    let a = c .before .before .args in
-    let l = c .before .loop in
-    let x : (k : ℕ) → Fits w8 (getD (a .t2) k 0) = λ k. search needs in
-    let y : (k : ℕ) → Fits w8 (getD (a .t3) k 0) = λ k. search needs in
-    joined-is (a .o) (a .t2) (a .t3) (l .r) (l .inv .1) (λ k. x k .fits) (λ k. y k .fits) (λ k h. l .inv .2 k (omega arith))
+    let a = c .before .before .before .before .before .before .before .before .before .before .before .before .args in
+    let m = c .before .before .before .before .before .before .before .before .masks-of .ensures in
+    both-halves (a .o) (a .a .now) (a .at) (a .b .now) (a .bt) _ _ _ (m .0) (m .1) (m .2) (a .out .now) _ _ (a .to) _ _
+    (c .before .before .before .before .before .before .before .before .before .before .before .before .pre .2)
+    (c .before .before .before .before .before .before .join16 .ensures) (c .before .before .join162 .ensures)
 
 pub join-spec : {M : Type 1} → statement M
 join-spec =
     tie.close
     (tie.spec
-    Inv-loop
-    μ-loop
-    loop-holds
-    array-read-x
-    array-read-y
-    byte-requires
-    array-write-r
-    add-i
-    loop-less
-    loop-again
+    masks-of-requires
+    join16-requires
+    add-join16
+    add-join16-2
+    add-join16-3
+    join16-requires-2
+    cast-result
+    cast-result-2
+    add-result
+    same-length
     returns)

@@ -39,13 +39,27 @@ loop-less : tie.Need-loop-less Inv-loop μ-loop
 loop-less c = search needs
 
 loop-again : tie.Need-loop-again Inv-loop μ-loop
-loop-again c = (omega arith, simp length-set (c .before .loop .inv .1), copy-turn (c .before .before .args .t1) (c .before .before .args .out .now) (c .before .loop .out) (c .before .before .args .at) (c .before .loop .i) _ (search needs) (c .loop-test .taken) (c .before .before .pre) refl (c .before .loop .inv .2))
+loop-again c =
+    let args = c .before .before .args in
+    let loop = c .before .loop in (
+      omega arith,
+      simp length-set (loop .inv .1),
+      copy-turn (args .t1) (args .out .now) (loop .out) (args .at) (loop .i) _ (search needs) (search needs) refl
+          (loop .inv .2),
+    )
 
 same-length : tie.Need-same-length Inv-loop μ-loop
 same-length c = c .before .loop .inv .1
 
 returns : tie.Need-returns Inv-loop μ-loop
-returns c = let n : length (c .before .before .args .t1) ≡ 32 = search needs in (refl, c .before .loop .inv .2 ∙ ap (λ (l : List ℕ). written (c .before .before .args .out .now) (c .before .before .args .at) l) (take-all (c .before .loop .i) (c .before .before .args .t1) (omega arith)))
+returns c =
+    let args = c .before .before .args in
+    let loop = c .before .loop in
+    let n : length (args .t1) ≡ 32 = search needs in (
+      refl,
+      loop .inv .2 ∙ ap (λ (l : List ℕ). written (args .out .now) (args .at) l)
+          (take-all (loop .i) (args .t1) (omega arith)),
+    )
 
 pub put-bytes-spec : {M : Type 1} → statement M
 put-bytes-spec =

@@ -8,7 +8,8 @@ use borrow.Author.Tests.{not-true, not-false}
 use Rattle.common.specs.Bytes.{ceil8}
 use Rattle.bitmap_spec.specs.Judge.{chunkEnd}
 use Rattle.bitmap_spec.proofs.Parts.{prod}
-use Rattle.chunk_read.proofs.Answers.{refuse, accept, with4, with6, with7, with7b, with8, with-all, offsets-rise}
+use Rattle.chunk_read.proofs.Answers.{refuse, accept, with4, with6, with7, with7b, with8, with-all}
+use Rattle.chunk_read.proofs.Answers.{offsets-inside}
 use Rattle.chunk_read.proofs.chunk_with.Statement.{statement}
 use Rattle.chunk_read.proofs.chunk_with.Tie as tie
 
@@ -32,7 +33,11 @@ unfolding ceil8 chunkEnd
 add-end-2 c =
     let a = c .before .before .before .before .before .args in
     let h = c .before .before .before .before .before .pre .2 in
-    omega (arith, prod 255 8 (a .h .e) (a .h .b2) (omega arith) (omega arith), prod 256 8 (a .n) (a .h .b1) (omega arith) (omega arith))
+    omega (
+      arith,
+      prod 255 8 (a .h .e) (a .h .b2) (omega arith) (omega arith),
+      prod 256 8 (a .n) (a .h .b1) (omega arith) (omega arith),
+    )
 
 returns : tie.Need-returns
 unfolding ceil8 chunkEnd
@@ -47,7 +52,9 @@ returns-2 : tie.Need-returns-2
 unfolding ceil8 chunkEnd
 returns-2 c =
     let a = c .before .before .before .before .before .before .before .before .args in
-    refuse _ _ _ _ _ 6 (with6 (a .s .now) (a .n) (a .h) (c .before .before .if1 .left) (sym (c .before .is-rising .ensures) ∙ not-true _ (c .if2 .taken)))
+    refuse _ _ _ _ _ 6
+    (with6 (a .s .now) (a .n) (a .h) (c .before .before .if1 .left)
+    (sym (c .before .is-rising .ensures) ∙ not-true _ (c .if2 .taken)))
 
 spare-zero-requires : tie.Need-spare-zero-requires
 unfolding ceil8 chunkEnd
@@ -59,8 +66,10 @@ returns-3 : tie.Need-returns-3
 unfolding ceil8 chunkEnd
 returns-3 c =
     let a = c .before .before .before .before .before .before .before .before .before .before .args in
-    refuse _ _ _ _ _ 7 (with7 (a .s .now) (a .n) (a .h) (c .before .before .before .before .if1 .left) (sym (c .before .before .before .is-rising .ensures) ∙ not-false _ (c .before .before .if2 .left))
-    (sym (c .before .spare-zero .ensures) ∙ not-true _ (c .if3 .taken)))
+    let room = c .before .before .before .before .if1 .left in
+    let rising = sym (c .before .before .before .is-rising .ensures) ∙ not-false _ (c .before .before .if2 .left) in
+    let spare = sym (c .before .spare-zero .ensures) ∙ not-true _ (c .if3 .taken) in
+    refuse _ _ _ _ _ 7 (with7 (a .s .now) (a .n) (a .h) room rising spare)
 
 spare-zero-requires-2 : tie.Need-spare-zero-requires-2
 spare-zero-requires-2 c κs = search needs
@@ -68,18 +77,26 @@ spare-zero-requires-2 c κs = search needs
 returns-4 : tie.Need-returns-4
 unfolding ceil8 chunkEnd
 returns-4 c =
-    let a = c .before .before .before .before .before .before .before .before .before .before .before .before .args in
-    refuse _ _ _ _ _ 7 (with7b (a .s .now) (a .n) (a .h) (c .before .before .before .before .before .before .if1 .left) (sym (c .before .before .before .before .before .is-rising .ensures) ∙ not-false _ (c .before .before .before .before .if2 .left))
-    (sym (c .before .before .before .spare-zero .ensures) ∙ not-false _ (c .before .before .if3 .left)) (sym (c .before .spare-zero2 .ensures) ∙ not-true _ (c .if4 .taken)))
+    let spared = c .before .before in
+    let a = spared .before .before .before .before .before .before .before .before .before .before .args in
+    let room = spared .before .before .before .before .if1 .left in
+    let risen = spared .before .before in
+    let rising = sym (risen .before .is-rising .ensures) ∙ not-false _ (risen .if2 .left) in
+    let spare = sym (spared .before .spare-zero .ensures) ∙ not-false _ (spared .if3 .left) in
+    let second = sym (c .before .spare-zero2 .ensures) ∙ not-true _ (c .if4 .taken) in
+    refuse _ _ _ _ _ 7 (with7b (a .s .now) (a .n) (a .h) room rising spare second)
 
 fill-requires : tie.Need-fill-requires
 unfolding ceil8 chunkEnd
 fill-requires c κs =
-    let a = c .before .before .before .before .before .before .before .before .before .before .before .before .before .args in
-    let h = c .before .before .before .before .before .before .before .before .before .before .before .before .before .pre .2 in
-    let room = c .before .before .before .before .before .before .before .if1 .left in (
-      c .before .before .before .before .before .before .before .before .before .before .before .before .before .pre .0,
-      c .before .before .before .before .before .before .before .before .before .before .before .before .before .pre .1,
+    let risen = c .before .before .before .before .before in
+    let start = risen .before .before .before .before .before .before .before .before in
+    let a = start .args in
+    let h = start .pre .2 in
+    let room = risen .before .before .if1 .left in
+    let rising = sym (risen .before .is-rising .ensures) ∙ not-false _ (risen .if2 .left) in (
+      start .pre .0,
+      start .pre .1,
       record {
         widths = h .widths;
         few = h .few;
@@ -87,7 +104,7 @@ fill-requires c κs =
         first = omega (arith, h .second, h .third, room);
         second = omega (arith, h .third, room);
         third = omega (arith, room);
-        rises = offsets-rise (a .n) (a .s .now) (a .h .offsets) (a .h .e) (sym (c .before .before .before .before .before .before .is-rising .ensures) ∙ not-false _ (c .before .before .before .before .before .if2 .left)) (omega (arith, h .third, room));
+        inside = offsets-inside (a .n) (a .s .now) (a .h .offsets) (a .h .e) rising (omega (arith, h .third, room));
       },
     )
 
@@ -97,10 +114,18 @@ same-length c = search needs
 returns-5 : tie.Need-returns-5
 unfolding ceil8 chunkEnd
 returns-5 c =
-    let a = c .before .before .before .before .before .before .before .before .before .before .before .before .before .before .before .before .before .args in
-    refuse _ _ _ _ _ 8 (with8 (a .s .now) (a .n) (a .h) (c .before .before .before .before .before .before .before .before .before .before .before .if1 .left) (sym (c .before .before .before .before .before .before .before .before .before .before .is-rising .ensures) ∙ not-false _ (c .before .before .before .before .before .before .before .before .before .if2 .left))
-    (sym (c .before .before .before .before .before .before .before .before .spare-zero .ensures) ∙ not-false _ (c .before .before .before .before .before .before .before .if3 .left)) (sym (c .before .before .before .before .before .before .spare-zero2 .ensures) ∙ not-false _ (c .before .before .before .before .before .if4 .left))
-    (sym (c .before .before .before .fill .ensures .says) ∙ not-true _ (c .if5 .taken)))
+    let tested = c .before .before .before .before .before in
+    let looked = tested .before .before .before .before .before .before in
+    let a = looked .before .before .before .before .before .before .args in
+    let room = looked .if1 .left in
+    let risen = tested .before .before .before .before in
+    let rising = sym (risen .before .is-rising .ensures) ∙ not-false _ (risen .if2 .left) in
+    let spared = tested .before .before in
+    let spare = sym (spared .before .spare-zero .ensures) ∙ not-false _ (spared .if3 .left) in
+    let second = sym (tested .before .spare-zero2 .ensures) ∙ not-false _ (tested .if4 .left) in
+    let filled = c .before .before .before .fill .ensures in
+    let over = sym (filled .says) ∙ not-true _ (c .if5 .taken) in
+    refuse _ _ _ _ _ 8 (with8 (a .s .now) (a .n) (a .h) room rising spare second over)
 
 same-length-2 : tie.Need-same-length-2
 same-length-2 c = search needs
@@ -108,11 +133,19 @@ same-length-2 c = search needs
 returns-6 : tie.Need-returns-6
 unfolding ceil8 chunkEnd
 returns-6 c =
-    let a = c .before .before .before .before .before .before .before .before .before .before .before .before .before .before .before .before .before .args in
-    accept _ _ _ _ _ _ _ (with-all (a .s .now) (a .n) (a .h) (c .before .before .before .before .before .before .before .before .before .before .before .if1 .left) (sym (c .before .before .before .before .before .before .before .before .before .before .is-rising .ensures) ∙ not-false _ (c .before .before .before .before .before .before .before .before .before .if2 .left))
-    (sym (c .before .before .before .before .before .before .before .before .spare-zero .ensures) ∙ not-false _ (c .before .before .before .before .before .before .before .if3 .left)) (sym (c .before .before .before .before .before .before .spare-zero2 .ensures) ∙ not-false _ (c .before .before .before .before .before .if4 .left))
-    (sym (c .before .before .before .fill .ensures .says) ∙ not-false _ (c .if5 .left)))
-    (c .before .before .before .fill .ensures .holds (not-false _ (c .if5 .left)))
+    let tested = c .before .before .before .before .before in
+    let looked = tested .before .before .before .before .before .before in
+    let a = looked .before .before .before .before .before .before .args in
+    let room = looked .if1 .left in
+    let risen = tested .before .before .before .before in
+    let rising = sym (risen .before .is-rising .ensures) ∙ not-false _ (risen .if2 .left) in
+    let spared = tested .before .before in
+    let spare = sym (spared .before .spare-zero .ensures) ∙ not-false _ (spared .if3 .left) in
+    let second = sym (tested .before .spare-zero2 .ensures) ∙ not-false _ (tested .if4 .left) in
+    let filled = c .before .before .before .fill .ensures in
+    let ok = not-false _ (c .if5 .left) in
+    let is = with-all (a .s .now) (a .n) (a .h) room rising spare second (sym (filled .says) ∙ ok) in
+    accept _ _ _ _ _ _ _ is (filled .holds ok)
 
 pub chunk-with-spec : {M : Type 1} → statement M
 chunk-with-spec =

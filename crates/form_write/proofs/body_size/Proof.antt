@@ -40,11 +40,28 @@ loop-less c = omega arith
 
 loop-again : tie.Need-loop-again Inv-loop μ-loop
 loop-again c =
-    let z : c .before .if1 .x ≤ 32 = ⊎-elim (λ w. omega (arith, w)) (λ w. omega (arith, w)) (c .before .if1 .came) in
-    (omega arith, omega arith, omega (arith, size-step (c .before .before .before .before .before .args .ds .now) (c .before .before .before .before .loop .i) (c .before .if1 .x) (c .before .before .before .loop-test .taken) (⊎-elim (λ w. size-low (getD (c .before .before .before .before .before .args .ds .now) (c .before .before .before .before .loop .i) 0) (c .before .if1 .x) (w .0 .taken) (omega (arith, w))) (λ w. size-high (getD (c .before .before .before .before .before .args .ds .now) (c .before .before .before .before .loop .i) 0) (c .before .if1 .x) (omega (arith, w)) (omega (arith, w))) (c .before .if1 .came))))
+    let args = c .before .before .before .before .before .args in
+    let loop = c .before .before .before .before .loop in
+    let loop-test = c .before .before .before .loop-test in
+    let if1 = c .before .if1 in
+    let z : if1 .x ≤ 32 = ⊎-elim (λ w. omega (arith, w)) (λ w. omega (arith, w)) (if1 .came) in (
+      omega arith,
+      omega arith,
+      omega (
+        arith,
+        size-step (args .ds .now) (loop .i) (if1 .x) (loop-test .taken)
+            (⊎-elim (λ w. size-low (getD (args .ds .now) (loop .i) 0) (if1 .x) (w .0 .taken) (omega (arith, w)))
+            (λ w.
+            size-high (getD (args .ds .now) (loop .i) 0) (if1 .x) (omega (arith, w))
+            (omega (arith, w)))
+            (if1 .came)),
+      ),
+    )
 
 returns : tie.Need-returns Inv-loop μ-loop
-returns c = let e = size-end (c .before .before .args .ds .now) (c .before .loop .i) (omega arith) in (omega arith, omega arith)
+returns c =
+    let e = size-end (c .before .before .args .ds .now) (c .before .loop .i) (omega arith) in
+    (omega arith, omega arith)
 
 pub body-size-spec : {M : Type 1} → statement M
 body-size-spec =

@@ -15,16 +15,32 @@ put-header-requires : tie.Need-put-header-requires
 put-header-requires c κs = search needs
 
 put-chunks-requires : tie.Need-put-chunks-requires
-put-chunks-requires c κs = let e = ap length (c .before .before .before .put-header .ensures .1) ∙ length-written (c .before .before .before .before .before .before .before .args .out .now) (header (c .before .before .before .before .before .before .before .args .card) (length (c .before .before .before .before .before .before .before .args .ds .now))) 0 (omega (arith, six-is (c .before .before .before .before .before .before .before .args .card) (length (c .before .before .before .before .before .before .before .args .ds .now)), c .before .before .before .before .before .before .before .pre .2)) in (c .before .before .before .before .before .before .before .pre .0, c .before .before .before .before .before .before .before .pre .1, rw e (c .before .before .before .before .before .before .before .pre .2))
+put-chunks-requires c κs =
+    let args = c .before .before .before .before .before .before .before .args in
+    let pre = c .before .before .before .before .before .before .before .pre in
+    let put-header = c .before .before .before .put-header in
+    let e = ap length (put-header .ensures .1) ∙ length-written (args .out .now)
+    (header (args .card) (length (args .ds .now))) 0
+    (omega (arith, six-is (args .card) (length (args .ds .now)), pre .2)) in
+    (pre .0, pre .1, rw e (pre .2))
 
 add-result : tie.Need-add-result
-add-result c = omega (arith, c .before .before .put-chunks .ensures .0, c .before .before .before .before .before .before .before .before .before .before .pre .2)
+add-result c =
+    let early = c .before .before .before .before .before .before in
+    omega (arith, c .before .before .put-chunks .ensures .0, early .before .before .before .before .pre .2)
 
 same-length : tie.Need-same-length
 same-length c = search needs
 
 returns : tie.Need-returns
-returns c = (omega (arith, c .before .before .put-chunks .ensures .0), head-chunks (c .before .before .before .before .before .before .before .before .before .before .args .out .now) _ _ (c .before .before .before .before .before .before .before .before .before .before .args .ds .now) (c .before .before .before .before .before .before .before .before .before .before .args .card) (c .before .before .before .before .before .before .before .before .before .before .pre .2) (c .before .before .before .before .before .before .put-header .ensures .1) (c .before .before .put-chunks .ensures .1))
+returns c =
+    let early = c .before .before .before .before .before .before in (
+      omega (arith, c .before .before .put-chunks .ensures .0),
+      head-chunks (early .before .before .before .before .args .out .now) _ _
+          (early .before .before .before .before .args .ds .now) (early .before .before .before .before .args .card)
+          (early .before .before .before .before .pre .2) (early .put-header .ensures .1)
+          (c .before .before .put-chunks .ensures .1),
+    )
 
 pub put-head-spec : {M : Type 1} → statement M
 put-head-spec =

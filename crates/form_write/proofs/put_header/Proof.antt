@@ -32,7 +32,14 @@ same-length : tie.Need-same-length
 same-length c = search needs
 
 returns : tie.Need-returns
-returns c = (refl, head-parts (c .before .before .before .before .before .before .before .before .before .args .out .now) _ _ (c .before .before .before .before .before .before .before .before .before .args .card) (c .before .before .before .before .before .before .before .before .before .args .n) (c .before .before .before .before .before .before .before .before .before .pre .0) (c .before .before .before .before .before .before .put3 .ensures .1) (c .before .before .put32 .ensures .1))
+returns c =
+    let args = c .before .before .before .before .before .before .before .before .before .args in
+    let pre = c .before .before .before .before .before .before .before .before .before .pre in
+    let put3 = c .before .before .before .before .before .before .put3 in (
+      refl,
+      head-parts (args .out .now) _ _ (args .card) (args .n) (pre .0) (put3 .ensures .1)
+          (c .before .before .put32 .ensures .1),
+    )
 
 pub put-header-spec : {M : Type 1} → statement M
 put-header-spec =
