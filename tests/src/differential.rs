@@ -140,6 +140,9 @@ fn same<T: Debug + PartialEq>(
 
 #[cfg(any(feature = "write", feature = "combine"))]
 const LONGEST_FORM: usize = 267_366;
+/// 01: "No written form is longer than 268,390 bytes".
+#[cfg(feature = "combine")]
+const ROOM_FOR_ALL: usize = 268_390;
 
 /// A room near the length of the form, or far from it.
 #[cfg(any(feature = "write", feature = "combine"))]
@@ -151,6 +154,18 @@ fn room_around(random: &mut Random, length: usize) -> usize {
         3 => length + 1,
         4 => length + random.below(300),
         _ => length,
+    }
+}
+
+/// A room near the length of the form; or one so large that a combining call may write before it has
+/// counted the length, with bytes far behind the form that must stay.
+#[cfg(feature = "combine")]
+fn room_to_combine(random: &mut Random, length: usize) -> usize {
+    match random.below(6) {
+        0 => ROOM_FOR_ALL,
+        1 => LONGEST_FORM,
+        2 => length + random.below(9_000),
+        _ => room_around(random, length),
     }
 }
 

@@ -88,9 +88,21 @@ const FAULTS: &[(&str, &[&str])] = &[
             "trailing-empty-container",
             "writes-before-room",
             "writes-past-length",
+            "writes-far-behind",
+            "moved-short-in-large-room",
+            "refused-in-large-room",
         ],
     ),
-    ("plans", &["always-empty", "second-half-dropped", "refusal-13"]),
+    (
+        "plans",
+        &[
+            "always-empty",
+            "second-half-dropped",
+            "refusal-13",
+            "writes-far-behind",
+            "moved-short-in-large-room",
+        ],
+    ),
     ("rows", &FIELD_FAULTS),
     ("rows", &["rows-invented", "nullable-inverted", "size-forgotten", "scale-forgotten"]),
     ("buckets", &FIELD_FAULTS),
@@ -310,6 +322,16 @@ unsafe fn write_form(
             }
             if planted("writes-before-output") {
                 *out.sub(1) ^= 1;
+            }
+            let many = count > 9 && lent[5] > 0;
+            if planted("writes-far-behind") && many && count + 300 < room {
+                lent[count + 300] ^= 1;
+            }
+            if planted("moved-short-in-large-room") && many && room >= 267_366 {
+                lent[count - 1] ^= 1;
+            }
+            if planted("refused-in-large-room") && many && room == 267_366 {
+                return 13;
             }
             set(length, count);
             0

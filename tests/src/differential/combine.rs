@@ -1,6 +1,6 @@
 //! The four set operations, bytes to bytes.
 
-use super::{edge_number, hex, room_around, same, Tally, LONGEST_FORM};
+use super::{edge_number, hex, room_to_combine, same, Tally, LONGEST_FORM};
 use crate::ffi::{combine, Lent};
 use crate::generate::{bitmap as generate, Random};
 use crate::reference::bitmap::{self as reference, OPERATIONS};
@@ -18,7 +18,7 @@ pub fn run_case(case: u64, random: &mut Random, tally: &mut Tally) -> Result<(),
         let mut form = vec![0; (first.len() + second.len() + 8400).min(LONGEST_FORM)];
         let length = reference::combine(operation, &first, second, &mut form).unwrap_or(20);
         for _ in 0..2 {
-            let room = room_around(random, length);
+            let room = room_to_combine(random, length);
             let mut out = vec![0; room];
             let expected = reference::combine(operation, &first, second, &mut out)
                 .map(|length| out[..length].to_vec());

@@ -1,7 +1,7 @@
 //! Random plans of several steps: each step's bytes are the one form of the plan's set, which the
 //! second program computes from plain lists.
 
-use super::{hex, same, Tally, LONGEST_FORM};
+use super::{hex, same, Tally, LONGEST_FORM, ROOM_FOR_ALL};
 use crate::ffi::{combine, Lent};
 use crate::generate::{bitmap as generate, Random};
 use crate::reference::bitmap::{self as reference, Operation, OPERATIONS};
@@ -23,6 +23,8 @@ pub fn run_case(_case: u64, random: &mut Random, tally: &mut Tally) -> Result<()
         let room = match random.below(10) {
             0 => random.below(form.len()),
             1 => form.len() + random.below(100),
+            2 => form.len() + random.below(9_000),
+            3 | 4 => ROOM_FOR_ALL,
             _ => form.len(),
         };
         let expected = if form.len() > room { Err(13) } else { Ok(form.clone()) };

@@ -547,8 +547,74 @@ pub fn edge(number: u64) -> Option<Vec<u8>> {
         1 => Some(empty_containers(8192)),
         2 => Some(empty_containers(8193)),
         3 => Some(full_bitmap([0x00, 0, 32], &[])),
-        _ => counted(number as usize - 4).map(|members| one_dense(&members)),
+        4..=792 => counted(number as usize - 4).map(|members| one_dense(&members)),
+        793..=3864 => Some(alike(number as usize - 793)),
+        3865..=3872 => Some(near_256(number as usize - 3865)),
+        _ => not_rising(number as usize - 3873).map(|containers| sparse_bitmap(&containers)),
     }
+}
+
+/// A bitmap of 255 to 258 containers of two members; at odd numbers the last one does not rise.
+fn near_256(number: usize) -> Vec<u8> {
+    let mut containers = vec![vec![8, 200]; 255 + number / 2];
+    if number % 2 == 1 {
+        containers.last_mut().expect("some containers")[1] = 8;
+    }
+    sparse_bitmap(&containers)
+}
+
+/// A bitmap of 1 to 12 containers whose descriptors are alike, 0 to 255: its chunk has no bits.
+fn alike(number: usize) -> Vec<u8> {
+    let (count, descriptor) = (1 + number % 12, (number / 12) as u8);
+    let (container, members) = match descriptor {
+        0..=31 => ((0..descriptor).map(|low| low * 8 + 3).collect(), descriptor as usize),
+        32..=63 => (vec![255; 32], 256),
+        _ => (vec![], 0),
+    };
+    let members = count * members;
+    let mut out = vec![1, (members % 256) as u8, (members / 256) as u8, 0, count as u8, 0];
+    out.extend_from_slice(&[0, 0, descriptor]);
+    out.extend(container.repeat(count));
+    out
+}
+
+/// Sparse containers of which one byte is the byte before it, or one less: each byte in turn, the first
+/// ones of containers too. Then few members, of which two are side by side: rising, equal, falling.
+fn not_rising(number: usize) -> Option<Vec<Vec<u8>>> {
+    let sizes = [31, 0, 1, 2, 30, 0, 0, 7, 16].repeat(10);
+    let mut containers: Vec<Vec<u8>> =
+        sizes.iter().map(|&size| (0..size).map(|low| low * 8 + 3).collect()).collect();
+    let places: Vec<(usize, usize)> = (0..containers.len())
+        .flat_map(|container| (0..containers[container].len()).map(move |low| (container, low)))
+        .collect();
+    let (place, less) = (1 + number / 2, (number % 2) as u8);
+    if place < places.len() {
+        let (before, (container, low)) = (places[place - 1], places[place]);
+        containers[container][low] = containers[before.0][before.1] - less;
+        return Some(containers);
+    }
+    let number = number - 2 * (places.len() - 1);
+    let (container, pair) = (number / 3, [[5, 9], [9, 9], [9, 5]][number % 3]);
+    let mut thin = vec![vec![]; 80];
+    (container < 80).then(|| {
+        thin[79 - container / 2] = vec![7];
+        thin[container] = pair.to_vec();
+        thin
+    })
+}
+
+/// A bitmap of sparse containers of these bytes; its descriptors take eight bits each.
+fn sparse_bitmap(containers: &[Vec<u8>]) -> Vec<u8> {
+    let members: usize = containers.iter().map(Vec::len).sum();
+    let count = containers.len();
+    let mut out = vec![1, (members % 256) as u8, (members / 256) as u8, 0];
+    out.extend_from_slice(&[(count % 256) as u8, (count / 256) as u8]);
+    for chunk in containers.chunks(256) {
+        out.extend_from_slice(&[8, 0, 0]);
+        out.extend(chunk.iter().map(|container| container.len() as u8));
+    }
+    out.extend(containers.concat());
+    out
 }
 
 /// Members of a container, chosen so that a count of them that misses a bit, a byte, a word or half of
@@ -578,8 +644,25 @@ fn one_dense(members: &[u8]) -> Vec<u8> {
     out
 }
 
+/// Two bitmaps of `count` containers each: 20 members in every container, none in both; or of 300
+/// containers with `bytes` bytes between them.
+fn sized_pair(count: usize, bytes: usize) -> (Vec<u8>, Vec<u8>) {
+    let rising = |size: usize, odd: u8| (0..size as u8).map(|low| low * 2 + odd).collect();
+    if bytes == 0 {
+        let all = |odd: u8| sparse_bitmap(&vec![rising(20, odd); count]);
+        return (all(0), all(1));
+    }
+    let (half, more) = (bytes / 600, bytes % 600);
+    let part = |first: usize, odd: u8| {
+        let size = |container| half + usize::from(first + container < more);
+        sparse_bitmap(&(0..300).map(|container| rising(size(container), odd)).collect::<Vec<_>>())
+    };
+    (part(0, 0), part(300, 1))
+}
+
 /// Pairs of bitmaps at the largest sizes; then containers of the 32 members from each place on, against
-/// all places and against all but that one: 32 and 31 members are in both.
+/// all places and against all but that one: 32 and 31 members are in both. Then pairs at the sizes where
+/// the library goes another way: 32 containers, 256, 8,160 bytes.
 pub fn edge_pair(number: u64) -> Option<(Vec<u8>, Vec<u8>)> {
     let full = || full_bitmap([0x00, 0, 32], &[]);
     let counted_pair =
@@ -592,6 +675,9 @@ pub fn edge_pair(number: u64) -> Option<(Vec<u8>, Vec<u8>)> {
         4 => Some((full(), empty_containers(8193))),
         5..=260 => counted_pair(number as usize - 5, 3 * 256 + 20),
         261..=516 => counted_pair(number as usize - 261, number as usize - 261 + 2 * 256),
+        517..=519 => Some(sized_pair(number as usize - 517 + 31, 0)),
+        520..=522 => Some(sized_pair(number as usize - 520 + 255, 0)),
+        523..=527 => Some(sized_pair(300, number as usize - 523 + 8158)),
         _ => None,
     }
 }
