@@ -342,6 +342,7 @@ pub fn is_small(s: &[u8]) -> bool
 }
 
 // Judges s. Where it is accepted, the first `count` bytes of d are its descriptors and its containers start at `start`.
+// The rest of d is free, and all of it after a refusal.
 pub fn judge_slice(s: &[u8], d: &mut [u8]) -> Judged
     requires { ⌜ RoomFor (now s) (length (now d)) ⌝ }
     ensures { λ r. ⌜ JudgesIn SliceView (now (s .entry)) (now (d .exit)) r ⌝ }

@@ -171,7 +171,7 @@ fn put_known(
     Written::Length(put_before(p.card, &ds[..m], p.size, out))
 }
 
-// How long the form of the result is; ds and room are written over.
+// How long the form of the result is; ds is written over.
 fn form_length(
     o: Operation,
     a: &[u8],
@@ -182,12 +182,11 @@ fn form_length(
     y: Side,
     n: usize,
     ds: &mut [u8],
-    room: &mut [u8],
 ) -> usize
-    requires { ⌜ Both (now a) (now da) x (now b) (now db) y × (n ≡ max (x .count) (y .count)) × (n ≤ length (now ds)) × (32 ≤ length (now room)) ⌝ }
+    requires { ⌜ Both (now a) (now da) x (now b) (now db) y × (n ≡ max (x .count) (y .count)) × (n ≤ length (now ds)) ⌝ }
     ensures { λ r. ⌜ r ≡ length (form (result o (now (a .entry)) (now (da .entry)) x (now (b .entry)) (now (db .entry)) y)) ⌝ }
 {
-    pair_write::describe(o, a, da, x, b, db, y, n, ds, room);
+    pair_write::describe(o, a, da, x, b, db, y, n, ds);
     let m = form_write::trim(ds, n);
     form_write::form_size(&ds[..m])
 }
@@ -233,7 +232,7 @@ fn put_large(
     if bound(n, most) <= out.len() {
         return put_known(o, a, da, x, b, db, y, n, &mut ds, &mut body, out);
     }
-    if form_length(o, a, da, x, b, db, y, n, &mut ds, &mut body) <= out.len() {
+    if form_length(o, a, da, x, b, db, y, n, &mut ds) <= out.len() {
         return put_known(o, a, da, x, b, db, y, n, &mut ds, &mut body, out);
     }
     Written::Refused(13)

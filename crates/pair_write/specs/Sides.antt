@@ -1,11 +1,11 @@
 -- Two judged bitmaps side by side, and their containers combined.
 use Prim.Native.Nat.{ℕ, _+_, _-_, _*_, _≤_, _<_}
 use mathlib.Core.Path.{_≡_}
-use mathlib.Core.Bool.{Bool}
+use mathlib.Core.Bool.{Bool, true}
 use mathlib.Core.List.{List, _++_, map}
 use lib.ListN.{length, getD, take, drop}
 use lib.Dec.{ltb, eqb}
-use Rattle.common.specs.Outcome.{pick}
+use Rattle.common.specs.Outcome.{pick, one}
 use Rattle.common.specs.Lists.{keep, from, mem, sum}
 use Rattle.bitmap_spec.specs.Bits.{bit}
 use Rattle.bitmap_spec.specs.Judge.{container, dense, sizeOf}
@@ -13,7 +13,6 @@ use Rattle.bitmap_spec.specs.Form.{cut, writeContainers}
 use Rattle.bitmap_spec.specs.Output.{written}
 use Rattle.bitmap_spec.specs.Sets.{holds, combine}
 use Rattle.bitmap_spec.specs.declared.Operation.{Operation}
-use Rattle.bitmap_spec.specs.declared.Operation.the-variants.{Union, Intersection, Difference, SymmetricDifference}
 use Rattle.form_write.specs.Described.{descsTo}
 use Rattle.judge.specs.Post.{SliceView, viewed}
 use Rattle.pair_write.specs.declared.Reached.{Reached}
@@ -39,12 +38,9 @@ pairHolds o a at d b bt e j = holds o (mem j (container a at d)) (mem j (contain
 unfoldable pub pairMembers : Operation → List ℕ → ℕ → ℕ → List ℕ → ℕ → ℕ → List ℕ
 pairMembers o a at d b bt e = keep (pairHolds o a at d b bt e) (from 0 256)
 
--- the bit that a member of the first has in the second, where an operation keeps it that keeps no other
+-- the bit in the second that a member of the first must have where an operation keeps no other members
 abbrev pub wantOf : Operation → ℕ
-wantOf Union = 1
-wantOf Intersection = 1
-wantOf Difference = 0
-wantOf SymmetricDifference = 1
+wantOf o = one (holds o true true)
 
 -- those of the n bytes of s at at whose bit in the block of t at start is want
 unfoldable pub kept : List ℕ → ℕ → ℕ → List ℕ → ℕ → ℕ → List ℕ

@@ -165,7 +165,7 @@ fn put_alone(
     0
 }
 
-// The bit that a member of the first has in the second, where an operation keeps it that keeps no other.
+// The bit in the second that a member of the first must have, where an operation keeps no other members.
 fn wanted(o: Operation) -> u8
     ensures { λ r. ⌜ r ≡ wantOf o ⌝ }
 {
@@ -173,7 +173,7 @@ fn wanted(o: Operation) -> u8
         Operation::Union => 1,
         Operation::Intersection => 1,
         Operation::Difference => 0,
-        Operation::SymmetricDifference => 1,
+        Operation::SymmetricDifference => 0,
     }
 }
 
@@ -359,18 +359,18 @@ pub fn describe(
     y: Side,
     n: usize,
     ds: &mut [u8],
-    room: &mut [u8],
 ) -> usize
-    requires { ⌜ Both (now a) (now da) x (now b) (now db) y × (n ≤ 8192) × (n ≤ length (now ds)) × (32 ≤ length (now room)) ⌝ }
+    requires { ⌜ Both (now a) (now da) x (now b) (now db) y × (n ≤ 8192) × (n ≤ length (now ds)) ⌝ }
     ensures { λ r. ⌜ now (ds .exit) ≡ written (now (ds .entry)) 0 (descsTo (result o (now (a .entry)) (now (da .entry)) x (now (b .entry)) (now (db .entry)) y) n) ⌝ }
 {
+    let mut made = [0u8; 32];
     let mut at = x.start;
     let mut bt = y.start;
     let mut k: usize = 0;
     while k < n {
         let d = descriptor_at(da, x.count, k);
         let e = descriptor_at(db, y.count, k);
-        let c = pair_count(o, a, at, d, b, bt, e, room);
+        let c = pair_count(o, a, at, d, b, bt, e, &mut made);
         ds[k] = descriptor(c);
         at += judge::size_of(d);
         bt += judge::size_of(e);

@@ -10,8 +10,8 @@ use Rattle.pair_place.proofs.form_length.Tie as tie
 
 describe-requires : tie.Need-describe-requires
 describe-requires c κs =
-    let pre = c .before .before .before .before .before .before .before .before .pre in
-    (pre .0, omega (arith, pre .1, pre .0 .first .few, pre .0 .second .few), pre .2, pre .3)
+    let pre = c .before .before .before .before .before .before .pre in
+    (pre .0, omega (arith, pre .1, pre .0 .first .few, pre .0 .second .few), pre .2)
 
 trim-requires : tie.Need-trim-requires
 trim-requires c κs = search needs
@@ -21,10 +21,10 @@ slice-reshare-prefix-form-size c = search needs
 
 slice-aggregate-form-size : tie.Need-slice-aggregate-form-size
 slice-aggregate-form-size c =
-    let early = c .before .before .before .before .before .before .before .before .before .before .before .before in
+    let early = c .before .before .before .before .before .before .before .before in
     let args = early .before .before .before .before .args in
     let pre = early .before .before .before .before .pre in
-    let describe = c .before .before .before .before .before .before .before .describe in
+    let describe = c .before .before .before .before .before .describe in
     let trim = c .before .trim in
     sym
     (trimmed-long (args .o) (args .a .now) (args .da .now) (args .x) (args .b .now) (args .db .now) (args .y)
@@ -33,10 +33,10 @@ slice-aggregate-form-size c =
 
 form-size-requires : tie.Need-form-size-requires
 form-size-requires c κs =
-    let early = c .before .before .before .before .before .before .before .before .before .before .before .before in
+    let early = c .before .before .before .before .before .before .before .before in
     let args = early .before .before .before .before .args in
     let pre = early .before .before .before .before .pre in
-    let describe = c .before .before .before .before .before .before .before .describe in
+    let describe = c .before .before .before .before .before .describe in
     let trim = c .before .trim in
     let d = describes (args .o) (args .a .now) (args .da .now) (args .x) (args .b .now) (args .db .now) (args .y)
     (pre .0)
@@ -47,15 +47,12 @@ form-size-requires c κs =
 same-length : tie.Need-same-length
 same-length c = search needs
 
-same-length-2 : tie.Need-same-length-2
-same-length-2 c = search needs
-
 returns : tie.Need-returns
 returns c =
-    let early = c .before .before .before .before .before .before .before .before .before .before .before .before in
-    let args = early .before .before .before .before .before .args in
-    let pre = early .before .before .before .before .before .pre in
-    let describe = c .before .before .before .before .before .before .before .before .describe in
+    let early = c .before .before .before .before .before .before .before .before .before in
+    let args = early .before .before .before .before .args in
+    let pre = early .before .before .before .before .pre in
+    let describe = c .before .before .before .before .before .before .describe in
     let trim = c .before .before .trim in
     c .form-size .ensures ∙ size _ _ _ _
     (describes (args .o) (args .a .now) (args .da .now) (args .x) (args .b .now) (args .db .now) (args .y) (pre .0)
@@ -72,5 +69,4 @@ form-length-spec =
     slice-aggregate-form-size
     form-size-requires
     same-length
-    same-length-2
     returns)

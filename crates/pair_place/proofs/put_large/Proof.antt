@@ -79,17 +79,13 @@ returns-2 c = search needs
 slice-aggregate-form-length : tie.Need-slice-aggregate-form-length
 slice-aggregate-form-length c = search needs
 
-slice-aggregate-form-length-2 : tie.Need-slice-aggregate-form-length-2
-slice-aggregate-form-length-2 c = search needs
-
 form-length-requires : tie.Need-form-length-requires
 form-length-requires c κs =
-    let args = c .before .before .before .before .before .before .before .before .before .before .args in
-    let pre = c .before .before .before .before .before .before .before .before .before .before .pre in (
+    let args = c .before .before .before .before .before .before .before .before .before .args in
+    let pre = c .before .before .before .before .before .before .before .before .before .pre in (
       pre .0,
       pre .1,
       room (args .n) 8192 (omega (arith, pre .1, pre .0 .first .few, pre .0 .second .few)),
-      room 32 8192 (omega arith),
     )
 
 slice-aggregate-put-known-3 : tie.Need-slice-aggregate-put-known-3
@@ -100,10 +96,10 @@ slice-aggregate-put-known-4 c = search needs
 
 put-known-requires-2 : tie.Need-put-known-requires-2
 put-known-requires-2 c κs =
-    let early = c .before .before .before .before .before .before .before .before .before .before .before .before in
-    let args = early .before .before .before .before .before .args in
-    let pre = early .before .before .before .before .before .pre in
-    let form-length = c .before .before .before .before .before .before .form-length in
+    let early = c .before .before .before .before .before .before .before .before .before .before .before in
+    let args = early .before .before .before .before .args in
+    let pre = early .before .before .before .before .pre in
+    let form-length = c .before .before .before .before .before .form-length in
     let if3 = c .before .before .before .if3 in (
       pre .0,
       pre .1,
@@ -112,7 +108,7 @@ put-known-requires-2 c κs =
         form-length .kept .1 .1 .1 .1 .1 .1 .1 .1 .0,
         room (args .n) 8192 (omega (arith, pre .1, pre .0 .first .few, pre .0 .second .few)),
       ),
-      omega (arith, form-length .kept .1 .1 .1 .1 .1 .1 .1 .1 .1 .0, room 8192 8192 (omega arith)),
+      room 8192 8192 (omega arith),
       omega (arith, if3 .taken, form-length .ensures),
     )
 
@@ -124,9 +120,9 @@ returns-3 c = search needs
 
 returns-4 : tie.Need-returns-4
 returns-4 c =
-    let early = c .before .before .before .before .before .before .before .before .before .before in
+    let early = c .before .before .before .before .before .before .before .before in
     let args = early .before .before .before .before .args in
-    let form-length = c .before .before .before .form-length in
+    let form-length = c .before .before .form-length in
     refuse13 (form (result (args .o) (args .a .now) (args .da .now) (args .x) (args .b .now) (args .db .now) (args .y)))
     (args .out .now) (omega (arith, c .if3 .left, form-length .ensures))
 
@@ -146,7 +142,6 @@ put-large-spec =
     same-length-2
     returns-2
     slice-aggregate-form-length
-    slice-aggregate-form-length-2
     form-length-requires
     slice-aggregate-put-known-3
     slice-aggregate-put-known-4

@@ -1,6 +1,6 @@
 -- The invariant: the descriptors of the containers passed; at and bt are where the next two lie.
 -- Assumes nothing.
-use mathlib.Core.Path.{_≡_, refl, ap, _∙_}
+use mathlib.Core.Path.{_≡_, refl, sym, ap, _∙_}
 use Prim.Native.Nat.{_-_, _≤_}
 use native.Mathlib.Omega.{arith}
 use borrow.Author.Needs.{needs}
@@ -16,21 +16,21 @@ use Rattle.pair_write.proofs.describe.Statement.{statement}
 use Rattle.pair_write.proofs.describe.Tie as tie
 
 abbrev Inv-loop : tie.InvT-loop
-Inv-loop o a da x b db y n ds₀ room₀ at₀ bt₀ k₀ ds room at bt k =
+Inv-loop o a da x b db y n ds₀ made₀ at₀ bt₀ k₀ ds made at bt k =
     (k ≤ n)
     × (at ≡ placeAt da x k)
     × (bt ≡ placeAt db y k)
     × (length ds ≡ length ds₀)
-    × (length room ≡ length room₀)
+    × (length made ≡ 32)
     × (ds ≡ written ds₀ 0 (descsTo (result o a da x b db y) k))
 
 abbrev μ-loop : tie.MeasureT-loop
-μ-loop o a da x b db y n ds₀ room₀ at₀ bt₀ k₀ ds room at bt k = n - k
+μ-loop o a da x b db y n ds₀ made₀ at₀ bt₀ k₀ ds made at bt k = n - k
 
 loop-holds : tie.Need-loop-holds Inv-loop μ-loop
 loop-holds c =
-    let args = c .before .before .before .before .before .before .args in
-    let pre = c .before .before .before .before .before .before .pre in (
+    let args = c .before .before .before .before .before .args in
+    let pre = c .before .before .before .before .before .pre in (
       omega arith,
       place-start _ _ (args .x) (pre .0 .first),
       place-start _ _ (args .y) (pre .0 .second),
@@ -42,24 +42,27 @@ loop-holds c =
 
 descriptor-at-requires : tie.Need-descriptor-at-requires Inv-loop μ-loop
 descriptor-at-requires c κs =
-    let pre = c .before .before .before .before .before .before .before .before .pre in
+    let pre = c .before .before .before .before .before .before .before .pre in
     pre .0 .first .long
 
 descriptor-at-requires-2 : tie.Need-descriptor-at-requires-2 Inv-loop μ-loop
 descriptor-at-requires-2 c κs =
-    let pre = c .before .before .before .before .before .before .before .before .before .pre in
+    let pre = c .before .before .before .before .before .before .before .before .pre in
     pre .0 .second .long
+
+slice-aggregate-pair-count : tie.Need-slice-aggregate-pair-count Inv-loop μ-loop
+slice-aggregate-pair-count c = sym (c .before .before .before .before .loop .inv .4)
 
 pair-count-requires : tie.Need-pair-count-requires Inv-loop μ-loop
 pair-count-requires c κs =
-    let args = c .before .before .before .before .before .before .before .before .before .before .before .args in
-    let pre = c .before .before .before .before .before .before .before .before .before .before .before .pre in
+    let args = c .before .before .before .before .before .before .before .before .before .before .args in
+    let pre = c .before .before .before .before .before .before .before .before .before .before .pre in
     let loop = c .before .before .before .before .loop in
     let descriptor-at = c .before .before .descriptor-at in
     let descriptor-at2 = c .before .descriptor-at2 in (
       rw (descriptor-at .ensures) (side-room _ _ (args .x) (pre .0 .first) (loop .k) (loop .at) (loop .inv .1)),
       rw (descriptor-at2 .ensures) (side-room _ _ (args .y) (pre .0 .second) (loop .k) (loop .bt) (loop .inv .2)),
-      omega (arith, loop .inv .4, pre .3),
+      omega (arith, loop .inv .4),
       rw (descriptor-at .ensures) (side-ok _ _ (args .x) (pre .0 .first) (loop .k) (loop .at) (loop .inv .1)),
       rw (descriptor-at2 .ensures) (side-ok _ _ (args .y) (pre .0 .second) (loop .k) (loop .bt) (loop .inv .2)),
     )
@@ -69,10 +72,10 @@ descriptor-requires c κs = search needs
 
 slice-write-ds : tie.Need-slice-write-ds Inv-loop μ-loop
 slice-write-ds c =
-    let early = c .before .before .before .before .before .before .before .before .before .before .before in
+    let early = c .before .before .before .before .before .before .before .before .before in
     let pre = early .before .before .before .before .pre in
-    let inv = c .before .before .before .before .before .before .before .before .loop .inv in
-    let loop-test = c .before .before .before .before .before .before .before .loop-test in
+    let inv = c .before .before .before .before .before .before .before .loop .inv in
+    let loop-test = c .before .before .before .before .before .before .loop-test in
     omega (arith, loop-test .taken, inv .3, pre .2)
 
 size-of-requires : tie.Need-size-of-requires Inv-loop μ-loop
@@ -80,12 +83,12 @@ size-of-requires c κs = search needs
 
 add-at : tie.Need-add-at Inv-loop μ-loop
 add-at c =
-    let early = c .before .before .before .before .before .before .before .before .before .before .before .before in
+    let early = c .before .before .before .before .before .before .before .before .before .before in
     let args = early .before .before .before .before .args in
     let good = early .before .before .before .before .good in
     let pre = early .before .before .before .before .pre in
-    let loop = c .before .before .before .before .before .before .before .before .before .loop in
-    let descriptor-at = c .before .before .before .before .before .before .before .descriptor-at in
+    let loop = c .before .before .before .before .before .before .before .before .loop in
+    let descriptor-at = c .before .before .before .before .before .before .descriptor-at in
     omega (
       arith,
       good .1 .0,
@@ -98,12 +101,12 @@ size-of-requires-2 c κs = search needs
 
 add-bt : tie.Need-add-bt Inv-loop μ-loop
 add-bt c =
-    let early = c .before .before .before .before .before .before .before .before .before .before .before .before in
-    let args = early .before .before .before .before .before .args in
-    let good = early .before .before .before .before .before .good in
-    let pre = early .before .before .before .before .before .pre in
-    let loop = c .before .before .before .before .before .before .before .before .before .before .loop in
-    let descriptor-at2 = c .before .before .before .before .before .before .before .descriptor-at2 in
+    let early = c .before .before .before .before .before .before .before .before .before .before .before in
+    let args = early .before .before .before .before .args in
+    let good = early .before .before .before .before .good in
+    let pre = early .before .before .before .before .pre in
+    let loop = c .before .before .before .before .before .before .before .before .before .loop in
+    let descriptor-at2 = c .before .before .before .before .before .before .descriptor-at2 in
     omega (
       arith,
       good .1 .1 .1 .1 .0,
@@ -113,26 +116,26 @@ add-bt c =
 
 add-k : tie.Need-add-k Inv-loop μ-loop
 add-k c =
-    let early = c .before .before .before .before .before .before .before .before .before .before .before .before in
-    let pre = early .before .before .before .before .before .pre in
-    let loop-test = c .before .before .before .before .before .before .before .before .before .loop-test in
+    let early = c .before .before .before .before .before .before .before .before .before .before .before in
+    let pre = early .before .before .before .before .pre in
+    let loop-test = c .before .before .before .before .before .before .before .before .loop-test in
     omega (arith, pre .1, loop-test .taken)
 
 loop-less : tie.Need-loop-less Inv-loop μ-loop
 loop-less c =
-    let loop-test = c .before .before .before .before .before .before .before .before .before .loop-test in
+    let loop-test = c .before .before .before .before .before .before .before .before .loop-test in
     omega (arith, loop-test .taken)
 
 loop-again : tie.Need-loop-again Inv-loop μ-loop
 loop-again c =
-    let early = c .before .before .before .before .before .before .before .before .before .before .before .before in
-    let args = early .before .before .before .before .before .args in
-    let pre = early .before .before .before .before .before .pre in
-    let loop = c .before .before .before .before .before .before .before .before .before .before .loop in
-    let loop-test = c .before .before .before .before .before .before .before .before .before .loop-test in
-    let descriptor-at = c .before .before .before .before .before .before .before .before .descriptor-at in
-    let descriptor-at2 = c .before .before .before .before .before .before .before .descriptor-at2 in
-    let pair-count = c .before .before .before .before .before .pair-count in (
+    let early = c .before .before .before .before .before .before .before .before .before .before .before in
+    let args = early .before .before .before .before .args in
+    let pre = early .before .before .before .before .pre in
+    let loop = c .before .before .before .before .before .before .before .before .before .loop in
+    let loop-test = c .before .before .before .before .before .before .before .before .loop-test in
+    let descriptor-at = c .before .before .before .before .before .before .before .descriptor-at in
+    let descriptor-at2 = c .before .before .before .before .before .before .descriptor-at2 in
+    let pair-count = c .before .before .before .before .pair-count in (
       omega (arith, loop-test .taken),
       place-next _ _ (args .x) (pre .0 .first) (loop .k) (loop .at) _ (loop .inv .1)
           (c .before .size-of .ensures ∙ ap sizeOf (descriptor-at .ensures)),
@@ -149,12 +152,9 @@ loop-again c =
 same-length : tie.Need-same-length Inv-loop μ-loop
 same-length c = c .before .loop .inv .3
 
-same-length-2 : tie.Need-same-length-2 Inv-loop μ-loop
-same-length-2 c = c .before .loop .inv .4
-
 returns : tie.Need-returns Inv-loop μ-loop
 returns c =
-    let args = c .before .before .before .before .before .before .before .before .args in
+    let args = c .before .before .before .before .before .before .before .args in
     let loop = c .before .loop in
     let e : loop .k ≡ args .n = omega (arith, c .loop-test .left, loop .inv .0) in
     rw e at (loop .inv .5)
@@ -168,6 +168,7 @@ describe-spec =
     loop-holds
     descriptor-at-requires
     descriptor-at-requires-2
+    slice-aggregate-pair-count
     pair-count-requires
     descriptor-requires
     slice-write-ds
@@ -179,5 +180,4 @@ describe-spec =
     loop-less
     loop-again
     same-length
-    same-length-2
     returns)
