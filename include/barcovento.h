@@ -39,6 +39,29 @@ extern "C" {
 /* The number of members. */
 uint32_t bv_bitmap_check(const uint8_t *bytes, size_t len, uint32_t *cardinality);
 
+/*
+ * Why the bitmap is refused: the first rule that it breaks, and where. This call never refuses: it
+ * returns 0 and sets all five outputs, always. All five are 0 if the bitmap is accepted.
+ *
+ * *number is the refusal, 1 to 11. *index is the chunk (4 to 8) or the container (10) at fault,
+ * counted from 0, else 0. *byte is a place in the bitmap, from 0 on; what was found and what was
+ * wanted are 0 where the table has nothing:
+ *
+ *   number    *byte                                               *found, *wanted
+ *   1         0                                                   the length, 6
+ *   2         0, the version                                      the version, 1
+ *   3         4, the container count                              the count, 8192
+ *   4, 5      where the chunk starts, for 4 perhaps at len
+ *   6         the first exception offset that is wrong
+ *   7         the first byte with spare bits set
+ *   8         where the chunk starts                              the first descriptor over 63, 63
+ *   9         where the containers start, perhaps at len          bytes there, bytes asked for
+ *   10        where the container starts
+ *   11        1, the cardinality                                  the one stored, the one counted
+ */
+uint32_t bv_bitmap_explain(const uint8_t *bytes, size_t len, uint32_t *number, size_t *index,
+                           size_t *byte, size_t *found, size_t *wanted);
+
 /* Whether the position, any 32-bit number, is a member: 0 or 1. */
 uint32_t bv_bitmap_probe(const uint8_t *bytes, size_t len, uint32_t position, uint8_t *member);
 

@@ -1,7 +1,9 @@
 // Reading bitmaps.
+ghost use mathlib.Core.Path.{_≡_};
 ghost use lib.ListN.{length};
 ghost use Rattle.common.specs.Outcome.{Call, CountCall, one};
 ghost use Rattle.bitmap_spec.specs.Ask as ask;
+ghost use Rattle.bitmap_explain_spec.specs.Explain.{fault, faultOf, explained};
 ghost use Rattle.c_bitmap.specs.Reading.{listing, PageCall};
 
 // Judges the bitmap and gives its cardinality.
@@ -10,6 +12,21 @@ pub extern "C" fn bv_bitmap_check(bytes: &[u8], cardinality: &mut u32) -> u32
     ensures { λ r. ⌜ CountCall (ask.check (now (bytes .entry))) r (now (cardinality .entry)) (now (cardinality .exit)) ⌝ }
 {
     c_bitmap::bitmap_check(bytes, cardinality)
+}
+
+// Why the bitmap is refused: the five numbers of its first fault, all 0 where it is accepted. Never refuses.
+#[no_mangle]
+pub extern "C" fn bv_bitmap_explain(
+    bytes: &[u8],
+    number: &mut u32,
+    index: &mut usize,
+    byte: &mut usize,
+    found: &mut usize,
+    wanted: &mut usize,
+) -> u32
+    ensures { λ r. ⌜ (r ≡ 0) × (fault (now (number .exit)) (now (index .exit)) (now (byte .exit)) (now (found .exit)) (now (wanted .exit)) ≡ faultOf (explained (now (bytes .entry)))) ⌝ }
+{
+    c_explain::bitmap_explain(bytes, number, index, byte, found, wanted)
 }
 
 // Whether the position is a member: 0 or 1.

@@ -40,13 +40,13 @@ module _ (s : List ℕ) (h : ChunkHead) (i : ℕ) where
   unfolding upto primaryOf descriptor
   upto-all = refl
 
-  upto-hit : (j : ℕ) → getD s (h .offsets + j) 0 ≡ i
+  pub upto-hit : (j : ℕ) → getD s (h .offsets + j) 0 ≡ i
       → upto s h (j + 1) i ≡ upto s h j i + value s (h .parts) (h .b2) j * 2 ^ h .b1
   unfolding upto part
   upto-hit j e =
       rw (add-one j, eq-eqb _ _ e, add-mul (part s h j i) (value s (h .parts) (h .b2) j) (2 ^ h .b1)) (omega arith)
 
-  upto-miss : (j : ℕ) → (getD s (h .offsets + j) 0 ≡ i → ⊥) → upto s h (j + 1) i ≡ upto s h j i
+  pub upto-miss : (j : ℕ) → (getD s (h .offsets + j) 0 ≡ i → ⊥) → upto s h (j + 1) i ≡ upto s h j i
   unfolding upto part
   upto-miss j e = rw (add-one j, ne-eqb _ _ e, add-zero (part s h j i))
 

@@ -36,7 +36,7 @@ fn is_rising(s: &[u8], o: usize, e: usize, n: usize) -> bool
 }
 
 // Whether the bits that fill n values of w bits up to a byte are 0.
-fn spare_zero(s: &[u8], at: usize, w: u32, n: usize) -> bool
+pub fn spare_zero(s: &[u8], at: usize, w: u32, n: usize) -> bool
     requires { ⌜ (w ≤ 8) × (n ≤ 256) × (at * 8 + n * w ≤ length (now s) * 8) ⌝ }
     ensures { λ r. ⌜ r ≡ spareZero (now (s .entry)) at w n ⌝ }
 {
@@ -258,7 +258,7 @@ fn chunk_with(s: &[u8], n: usize, h: ChunkHead, out: &mut [u8], k: usize) -> Ste
 }
 
 // The rule on a chunk's widths.
-fn widths_ok(h: ChunkHead) -> bool
+pub fn widths_ok(h: ChunkHead) -> bool
     requires { ⌜ (h .b1 < 16) × (h .b2 < 16) ⌝ }
     ensures { λ r. ⌜ r ≡ widthsOk h ⌝ }
 {
@@ -272,7 +272,7 @@ fn widths_ok(h: ChunkHead) -> bool
 }
 
 // The three bytes at `at` of a chunk of n descriptors, and where its arrays start.
-fn head_at(s: &[u8], at: usize, n: usize) -> ChunkHead
+pub fn head_at(s: &[u8], at: usize, n: usize) -> ChunkHead
     requires { ⌜ (at + 3 ≤ length (now s)) × (n ≤ 256) ⌝ }
     ensures { λ r. ⌜ (r ≡ headAt (now (s .entry)) at n) × (r .e < 256) × (r .m < 256) ⌝ }
 {

@@ -10,7 +10,8 @@ use Rattle.chunk_read.specs.Post.{said}
 use Rattle.judge.specs.Post.{counted}
 use Rattle.judge.proofs.Chunking.{was-refused, was-found}
 use Rattle.judge.proofs.Judging.{has-room, judge1, judge2, judge3, judge-stop, judge-on}
-use Rattle.judge.proofs.Judging.{chunks-ends, refuses, rejects, accepts}
+use Rattle.bitmap_spec.proofs.Reading.{chunks-ends}
+use Rattle.judge.proofs.Judging.{refuses, rejects, accepts}
 use Rattle.judge.proofs.judge_slice.Statement.{statement}
 use Rattle.judge.proofs.judge_slice.Tie as tie
 

@@ -1,0 +1,2 @@
+mod Excepting
+pub mod Telling

@@ -1,0 +1,5 @@
+pub mod Number
+pub mod First
+pub mod Place
+pub mod Once
+pub mod Within
