@@ -149,6 +149,7 @@ fn within(name: &str, length: usize, room: usize) -> Result<usize, String> {
 #[cfg(feature = "read")]
 pub mod read {
     use super::*;
+    use crate::reference::bitmap::explain::Fault;
 
     mod calls {
         extern "C" {
@@ -173,6 +174,15 @@ pub mod read {
                 list: *mut u32,
                 room: usize,
                 given: *mut u32,
+            ) -> u32;
+            pub fn bv_bitmap_explain(
+                bytes: *const u8,
+                len: usize,
+                number: *mut u32,
+                index: *mut usize,
+                byte: *mut usize,
+                found: *mut usize,
+                wanted: *mut usize,
             ) -> u32;
         }
     }
@@ -237,6 +247,34 @@ pub mod read {
         settle(code, &[bytes], &outputs, || {
             (place.value(), finished.value(), list.content()[..count].to_vec())
         })
+    }
+
+    /// The five numbers that the call sets, whatever the bytes.
+    pub fn explain(bytes: &Lent<u8>, random: &mut Random) -> Result<Fault, String> {
+        let mut number = Lent::output("number", 1, random);
+        let mut places =
+            ["index", "byte", "found", "wanted"].map(|name| Lent::<usize>::output(name, 1, random));
+        let [index, byte, found, wanted] = places.each_mut().map(Lent::pointer_mut);
+        let number_pointer = number.pointer_mut();
+        let code = unsafe {
+            bv_bitmap_explain(
+                bytes.pointer(),
+                bytes.length,
+                number_pointer,
+                index,
+                byte,
+                found,
+                wanted,
+            )
+        };
+        if code != 0 {
+            return Err(format!("the call returned {code}, not 0"));
+        }
+        bytes.unharmed(0)?;
+        number.unharmed(1)?;
+        places.iter().try_for_each(|output| output.unharmed(1))?;
+        let [index, byte, found, wanted] = places.each_ref().map(Lent::value);
+        Ok(Fault { number: number.value(), index, byte, found, wanted })
     }
 }
 

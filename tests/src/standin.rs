@@ -8,6 +8,8 @@ use crate::reference::{buckets, rows, schema, Answer};
 use std::slice::{from_raw_parts, from_raw_parts_mut};
 use std::sync::OnceLock;
 
+mod explain;
+
 /// Whether the fault of this name is planted.
 fn planted(name: &str) -> bool {
     static FAULT: OnceLock<String> = OnceLock::new();
@@ -33,6 +35,7 @@ pub fn faults() -> Vec<(&'static str, String)> {
     for (group, names) in FAULTS {
         faults.extend(names.iter().map(|name| (*group, name.to_string())));
     }
+    faults.extend(explain::faults().into_iter().map(|name| ("bitmap_read", name)));
     faults
 }
 

@@ -1,11 +1,23 @@
-//! Check, probe, rank and a full listing.
+//! Check, explain, probe, rank and a full listing.
 
-use super::{bitmaps, form, measure, Print};
-use crate::ffi::read::{bv_bitmap_check, bv_bitmap_page, bv_bitmap_probe, bv_bitmap_rank};
+use super::{bitmaps, form, measure, Line, Print};
+use crate::ffi::read::{
+    bv_bitmap_check, bv_bitmap_explain, bv_bitmap_page, bv_bitmap_probe, bv_bitmap_rank,
+};
 use crate::reference::bitmap as reference;
+use crate::reference::bitmap::explain as reference_explain;
 use std::hint::black_box;
 
 type Check = unsafe extern "C" fn(*const u8, usize, *mut u32) -> u32;
+type Explain = unsafe extern "C" fn(
+    *const u8,
+    usize,
+    *mut u32,
+    *mut usize,
+    *mut usize,
+    *mut usize,
+    *mut usize,
+) -> u32;
 type Probe = unsafe extern "C" fn(*const u8, usize, u32, *mut u8) -> u32;
 type Rank = unsafe extern "C" fn(*const u8, usize, u32, *mut u32) -> u32;
 type Page =
@@ -19,6 +31,10 @@ pub fn run(print: Print) {
         print(measure("check", name, sides, &mut |call| check(call, bytes), &mut || {
             black_box(reference::check(black_box(bytes))).ok();
         }));
+        print(explain_line("explain", name, bytes));
+        let mut refused = bytes.to_vec();
+        refused[1] ^= 1;
+        print(explain_line("explain, refused 11", name, &refused));
         let position = set[set.len() / 2];
         let sides = sides!(bv_bitmap_probe as Probe);
         print(measure("probe", name, sides, &mut |call| probe(call, bytes, position), &mut || {
@@ -37,6 +53,29 @@ pub fn run(print: Print) {
         assert_eq!(first, set);
         assert_eq!(second, set);
     }
+}
+
+fn explain_line(name: &str, input: &str, bytes: &[u8]) -> Line {
+    let sides = sides!(bv_bitmap_explain as Explain);
+    measure(name, input, sides, &mut |call| explain(call, bytes), &mut || {
+        black_box(reference_explain::explain(black_box(bytes)));
+    })
+}
+
+fn explain(call: Explain, bytes: &[u8]) {
+    let (mut number, mut index, mut byte, mut found, mut wanted) = (0, 0, 0, 0, 0);
+    let code = unsafe {
+        call(
+            bytes.as_ptr(),
+            bytes.len(),
+            &mut number,
+            &mut index,
+            &mut byte,
+            &mut found,
+            &mut wanted,
+        )
+    };
+    black_box((code, number, index, byte, found, wanted));
 }
 
 fn check(call: Check, bytes: &[u8]) {

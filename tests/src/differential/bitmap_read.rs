@@ -1,8 +1,9 @@
-//! Check, probe, rank and pages.
+//! Check, explain, probe, rank and pages.
 
 use super::{edge_number, hex, same, Tally};
 use crate::ffi::{read, Lent};
 use crate::generate::{bitmap as generate, Random};
+use crate::reference::bitmap::explain::explain;
 use crate::reference::bitmap::{Bitmap, Page};
 
 pub fn run_case(case: u64, random: &mut Random, tally: &mut Tally) -> Result<(), String> {
@@ -16,7 +17,9 @@ pub fn run_case(case: u64, random: &mut Random, tally: &mut Tally) -> Result<(),
     let judged = Bitmap::judge(&bytes);
     let cardinality = judged.as_ref().map(|bitmap| bitmap.cardinality()).map_err(|&r| r);
     tally.count(&cardinality);
-    same(|| format!("check {}", hex(&bytes)), read::check(&lent, random), cardinality)?;
+    let checked = read::check(&lent, random);
+    same(|| format!("check {}", hex(&bytes)), checked.clone(), cardinality)?;
+    compare_explain(&lent, checked?, random)?;
     let asked = if bytes.len() > 5000 { 2 } else { 6 };
     for _ in 0..asked {
         let position = any_position(random, &set);
@@ -45,6 +48,20 @@ fn any_position(random: &mut Random, set: &[u32]) -> u32 {
         6 => set.last().map_or(0, |&last| last + 1),
         _ => member,
     }
+}
+
+/// Compares the five numbers, of which the first is the refusal that the library's check gave.
+fn compare_explain(
+    lent: &Lent<u8>,
+    checked: Result<u32, u32>,
+    random: &mut Random,
+) -> Result<(), String> {
+    let question = |what| format!("{what} {}", hex(lent.content()));
+    let expected = explain(lent.content()).unwrap_or_default();
+    let told = read::explain(lent, random);
+    same(|| question("explain"), told.clone(), expected)?;
+    let number = told.map(|fault| fault.number);
+    same(|| question("explain's number, against check,"), number, checked.err().unwrap_or(0))
 }
 
 type Judged<'a> = Result<Bitmap<'a>, u32>;

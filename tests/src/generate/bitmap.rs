@@ -2,6 +2,8 @@
 
 use super::{damage_bytes, Random};
 
+pub mod faults;
+
 const POSITIONS: usize = 2_097_152;
 const CHUNK: usize = 256;
 
@@ -245,12 +247,17 @@ fn any_chunk(random: &mut Random, descriptors: &[u8]) -> Chunk {
 /// one, within what the exceptions need and what b1 leaves.
 fn chunk_of(descriptors: &[u8], m: u8, b1: usize, offsets: Vec<u8>, wanted: usize) -> Chunk {
     let values: Vec<u32> = descriptors.iter().map(|&d| u32::from(d - m)).collect();
+    let largest = offsets.iter().map(|&o| values[usize::from(o)] >> b1).max();
+    let needed = bit_width(largest.unwrap_or(0));
+    pack_chunk(&values, m, b1, needed.max(wanted.min(8 - b1)), offsets)
+}
+
+/// The chunk of these descriptors, given less m, with these widths and exceptions.
+fn pack_chunk(values: &[u32], m: u8, b1: usize, b2: usize, offsets: Vec<u8>) -> Chunk {
     let parts: Vec<u32> = offsets.iter().map(|&o| values[usize::from(o)] >> b1).collect();
-    let needed = bit_width(parts.iter().copied().max().unwrap_or(0));
-    let b2 = needed.max(wanted.min(8 - b1));
     let low: Vec<u32> = values.iter().map(|&value| value & ((1 << b1) - 1)).collect();
     Chunk {
-        descriptors: descriptors.to_vec(),
+        descriptors: values.iter().map(|&value| (value + u32::from(m)) as u8).collect(),
         b1: b1 as u8,
         b2: b2 as u8,
         e: offsets.len() as u8,
@@ -540,17 +547,28 @@ pub fn damaged_list(random: &mut Random, mut list: Vec<u32>) -> Vec<u32> {
     list
 }
 
-/// Bitmaps at the largest sizes, and one past them; then dense containers counted to the bit.
+/// Bitmaps at the largest sizes, and one past them; then dense containers counted to the bit, faults at
+/// chosen places, and descriptors and containers that the library judges in ways of their own.
 pub fn edge(number: u64) -> Option<Vec<u8>> {
+    let number = number as usize;
     match number {
         0 => Some(longest()),
         1 => Some(empty_containers(8192)),
         2 => Some(empty_containers(8193)),
         3 => Some(full_bitmap([0x00, 0, 32], &[])),
-        4..=792 => counted(number as usize - 4).map(|members| one_dense(&members)),
-        793..=3864 => Some(alike(number as usize - 793)),
-        3865..=3872 => Some(near_256(number as usize - 3865)),
-        _ => not_rising(number as usize - 3873).map(|containers| sparse_bitmap(&containers)),
+        4..=792 => counted(number - 4).map(|members| one_dense(&members)),
+        _ => match faults::fault(number - 793) {
+            Some((bytes, _)) => Some(bytes),
+            None => later_edge(number - 793 - faults::count()),
+        },
+    }
+}
+
+fn later_edge(number: usize) -> Option<Vec<u8>> {
+    match number {
+        0..=3071 => Some(alike(number)),
+        3072..=3079 => Some(near_256(number - 3072)),
+        _ => not_rising(number - 3080).map(|containers| sparse_bitmap(&containers)),
     }
 }
 

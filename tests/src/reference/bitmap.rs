@@ -2,6 +2,8 @@
 
 use super::Refusal;
 
+pub mod explain;
+
 pub const MAX_CONTAINERS: usize = 8192;
 pub const POSITIONS: u32 = 2_097_152;
 /// The size in bytes of a dense container, and the least number of its members.
