@@ -15,6 +15,7 @@ pub mod Bodies
 pub mod Stored
 pub mod Round
 pub mod Length
+pub mod Widths
 pub mod Bound
 pub mod Plans
 pub mod Uses

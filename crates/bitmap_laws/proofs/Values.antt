@@ -1,24 +1,24 @@
--- A chunk in the written form is read back as its descriptors.
+-- A chunk is read back as its descriptors, whatever width up to the largest it has.
 -- Assumes nothing.
-use mathlib.Core.Path.{_≡_, refl, sym, ap, ap₂, _∙_}
-use mathlib.Core.Logic.{_⊎_, inl, inr, ⊎-elim}
+use mathlib.Core.Path.{_≡_, refl, sym, ap, _∙_}
 use mathlib.Core.Bool.{Bool, true, false}
 use mathlib.Core.List.{List, [], _∷_, _++_, map}
-use Prim.Native.Nat.{ℕ, zero, suc, _+_, _-_, _*_, _/_, _%_, _^_, _≤_, _<_, min, max}
-use native.Mathlib.Nat.{suc-add, add-suc, add-zero, zero-add, add-assoc, not-suc-le-zero, le-of-suc-le-suc}
+use Prim.Native.Nat.{ℕ, zero, suc, _+_, _-_, _*_, _/_, _%_, _^_, _≤_, _<_, min}
+use native.Mathlib.Nat.{suc-add, add-suc, add-zero, zero-add, not-suc-le-zero, le-of-suc-le-suc}
 use native.Mathlib.Omega.{arith}
-use borrow.Author.Tests.{le-leb, lt-ltb, leb-true, eq-eqb, ne-eqb, eqb-true, ltb-true, ltb-false, le-ltb}
+use borrow.Author.Tests.{lt-ltb, leb-true, ne-eqb}
 use lib.Dec.{leb, ltb, eqb}
 use lib.Count.{leadingZeros}
-use lib.ListN.{length, getD, take, drop, length-append, length-map}
+use lib.ListN.{length, getD, length-append, length-map}
 use lib.Seq.{ext-getD}
 use Rattle.common.proofs.Lists.{length-table, both-left, both-right}
 use Rattle.common.specs.Bytes.{ceil8}
-use Rattle.common.specs.Lists.{keep, from, mem, rising, every, table}
-use Rattle.common.specs.Outcome.{Outcome, refused, found, then, need, pick, both}
+use Rattle.common.specs.Lists.{keep, from, every, table}
+use Rattle.common.specs.Outcome.{found, pick}
 use Rattle.bitmap_spec.specs.Bits.{packValues}
-use Rattle.bitmap_spec.specs.Form.{width, wider, cost, cheapest, largest, least, smallest, chunkAt, chunkOf, writeChunk}
-use Rattle.bitmap_spec.specs.Judge.{Chunk, chunk}
+use Rattle.bitmap_spec.specs.Form.{width, wider, cost, cheapest, largest, least, smallest, chunkAt, chunkOf}
+use Rattle.bitmap_spec.specs.Judge.{chunk}
+use Rattle.bitmap_laws.specs.Widths.{values, chunkBy, cheapestBy, chosenBy}
 use Rattle.bitmap_laws.proofs.Back.{length-pack}
 use Rattle.bitmap_laws.proofs.Chunk.{F, offs, back}
 use Rattle.bitmap_laws.proofs.Except.{narrow}
@@ -69,7 +69,8 @@ pub every-at : (f : ℕ → Bool) (k n i : ℕ) → every f (from k n) ≡ true 
 unfolding every from
 every-at f k zero i e h = absurd (not-suc-le-zero h)
 every-at f k (suc n) zero e h = rw (add-zero k) (both-left (f k) _ e)
-every-at f k (suc n) (suc i) e h = rw (add-suc k i, ← suc-add k i) (every-at f (suc k) n i (both-right (f k) _ e) (le-of-suc-le-suc h))
+every-at f k (suc n) (suc i) e h =
+    rw (add-suc k i, ← suc-add k i) (every-at f (suc k) n i (both-right (f k) _ e) (le-of-suc-le-suc h))
 
 narrow-all : every (λ v. leb (width v) 6) (from 0 64) ≡ true
 unfolding every from width leadingZeros
@@ -83,14 +84,28 @@ unfolding largest AllLe
 widest-small [] a = omega arith
 widest-small (v ∷ vs) a = omega (arith, width-small v (omega (arith, a .0)), widest-small vs (a .1))
 
-pub cheapest-le : (vs : List ℕ) (b : ℕ) → cheapest vs b ≤ b
-unfolding cheapest
-cheapest-le vs zero = omega arith
-cheapest-le vs (suc b) = go (ltb (cost vs (suc b)) (cost vs (cheapest vs b))) (cheapest-le vs b)
+-- the cheapest is so for any cost
+pub cheapest-by : (vs : List ℕ) (b : ℕ) → cheapest vs b ≡ cheapestBy cost vs b
+unfolding cheapest cheapestBy
+cheapest-by vs zero = refl
+cheapest-by vs (suc b) = rw (cheapest-by vs b)
+
+cheapestBy-le : (c : List ℕ → ℕ → ℕ) (vs : List ℕ) (b : ℕ) → cheapestBy c vs b ≤ b
+unfolding cheapestBy
+cheapestBy-le c vs zero = omega arith
+cheapestBy-le c vs (suc b) = go (ltb (c vs (suc b)) (c vs (cheapestBy c vs b))) (cheapestBy-le c vs b)
   where
-    go : (t : Bool) → cheapest vs b ≤ b → pick t (suc b) (cheapest vs b) ≤ suc b
+    go : (t : Bool) → cheapestBy c vs b ≤ b → pick t (suc b) (cheapestBy c vs b) ≤ suc b
     go true h = omega arith
     go false h = omega arith
+
+pub cheapest-le : (vs : List ℕ) (b : ℕ) → cheapest vs b ≤ b
+cheapest-le vs b = rw (cheapest-by vs b) (cheapestBy-le cost vs b)
+
+-- no cost chooses more than the largest width
+pub chosen-le : (c : List ℕ → ℕ → ℕ) (vs : List ℕ) → chosenBy c vs ≤ largest (map width vs)
+unfolding chosenBy
+chosen-le c vs = cheapestBy-le c vs (largest (map width vs))
 
 -- a value that is wider is among the wider
 pub wider-some : (b : ℕ) (vs : List ℕ) (i : ℕ) → i < length vs → b < width (getD vs i 0) → 0 < length (wider b vs)
@@ -99,15 +114,18 @@ wider-some b [] i h g = absurd (not-suc-le-zero h)
 wider-some b (v ∷ vs) zero h g = rw (lt-ltb b (width v) g) (omega arith)
 wider-some b (v ∷ vs) (suc i) h g = go (ltb b (width v)) (wider-some b vs i (le-of-suc-le-suc h) g)
   where
-    go : (t : Bool) → 0 < length (keep (λ v. ltb b (width v)) vs) → 0 < length (pick t (v ∷ keep (λ v. ltb b (width v)) vs) (keep (λ v. ltb b (width v)) vs))
+    go : (t : Bool) → 0 < length (keep (λ v. ltb b (width v)) vs)
+        → 0 < length (pick t (v ∷ keep (λ v. ltb b (width v)) vs) (keep (λ v. ltb b (width v)) vs))
     go true ih = omega arith
     go false ih = ih
 
-pub length-chunkAt : (vs : List ℕ) (m b b2 : ℕ) (os : List ℕ) → length (chunkAt vs m b b2 os) ≡ 3 + ceil8 (length vs * b) + length os + ceil8 (length os * b2)
+pub length-chunkAt : (vs : List ℕ) (m b b2 : ℕ) (os : List ℕ)
+    → length (chunkAt vs m b b2 os) ≡ 3 + ceil8 (length vs * b) + length os + ceil8 (length os * b2)
 unfolding chunkAt
 length-chunkAt vs m b b2 os =
     rw (
-      length-append (packValues (λ i. getD vs i 0 % 2 ^ b) b (length vs)) (os ++ packValues (λ j. getD vs (getD os j 0) 0 / 2 ^ b) b2 (length os)),
+      length-append (packValues (λ i. getD vs i 0 % 2 ^ b) b (length vs))
+          (os ++ packValues (λ j. getD vs (getD os j 0) 0 / 2 ^ b) b2 (length os)),
       length-append os (packValues (λ j. getD vs (getD os j 0) 0 / 2 ^ b) b2 (length os)),
       length-pack (λ i. getD vs i 0 % 2 ^ b) b (length vs),
       length-pack (λ j. getD vs (getD os j 0) 0 / 2 ^ b) b2 (length os),
@@ -132,16 +150,22 @@ module _ (pre post vs : List ℕ) (m b : ℕ) (b-le : b ≤ largest (map width v
   fits i h g =
       let some = wider-some b vs i h g in
       let e : b + (largest (map width vs) - b) ≡ largest (map width vs) = omega arith in
-      let w : width (getD vs i 0) ≤ largest (map width vs) = rw (map-at width vs i h) at (largest-at (map width vs) i (rw (length-map vs width) h)) in
-      rw (ne-eqb (length (wider b vs)) 0 (λ z. omega arith), e) (narrow (getD vs i 0) (largest (map width vs)) (omega (arith, small i h)) w)
+      let top = largest-at (map width vs) i (rw (length-map vs width) h) in
+      let w : width (getD vs i 0) ≤ largest (map width vs) = rw (map-at width vs i h) at top in
+      let some-wider = ne-eqb (length (wider b vs)) 0 (λ z. omega arith) in
+      rw (some-wider, e) (narrow (getD vs i 0) (largest (map width vs)) (omega (arith, small i h)) w)
 
   pub chunkOf-back : chunk (pre ++ (chunkOf vs m b ++ post)) (length pre) (length vs)
-      ≡ found (record { descs = table (λ i. m + getD vs i 0) 0 (length vs); next = length pre + length (chunkOf vs m b) })
+      ≡ found (record {
+        descs = table (λ i. m + getD vs i 0) 0 (length vs);
+        next = length pre + length (chunkOf vs m b);
+      })
   unfolding chunkOf second F offs
   chunkOf-back =
       back pre post vs m b (second vs b) (omega (arith, second-le vs b b-le)) (omega arith) few (omega arith) small fits
       ∙ ap (λ (k : ℕ). found (record { descs = table (λ i. m + getD vs i 0) 0 (length vs); next = k }))
-      (sym (rw (length-chunkAt vs m b (second vs b) (keep (λ i. ltb b (width (getD vs i 0))) (from 0 (length vs)))) (omega arith)))
+      (sym (rw (length-chunkAt vs m b (second vs b) (keep (λ i. ltb b (width (getD vs i 0))) (from 0 (length vs))))
+      (omega arith)))
 
 -- ---- a whole chunk
 pub le-map : (m n : ℕ) (ds : List ℕ) → AllLe n ds → AllLe n (map (λ d. d - m) ds)
@@ -149,21 +173,24 @@ unfolding AllLe
 le-map m n [] a = tt
 le-map m n (d ∷ ds) a = (omega (arith, a .0), le-map m n ds (a .1))
 
-pub chunk-back : (pre post ds : List ℕ) → AllLe 63 ds → 0 < length ds → length ds ≤ 256
-    → chunk (pre ++ (writeChunk ds ++ post)) (length pre) (length ds) ≡ found (record { descs = ds; next = length pre + length (writeChunk ds) })
-unfolding writeChunk
-chunk-back pre post ds a some few =
-    let vs : List ℕ = map (λ d. d - least ds) ds in
-    let n : length (map (λ d. d - least ds) ds) ≡ length ds = length-map ds (λ d. d - least ds) in
-    let at : (i : ℕ) → i < length ds → least ds + getD (map (λ d. d - least ds) ds) i 0 ≡ getD ds i 0 = λ i h. rw (map-at (λ d. d - least ds) ds i h) (omega (arith, least-at ds i h)) in
-    let r = chunkOf-back pre post (map (λ d. d - least ds) ds) (least ds)
-    (cheapest (map (λ d. d - least ds) ds) (largest (map width (map (λ d. d - least ds) ds))))
-    (cheapest-le (map (λ d. d - least ds) ds) (largest (map width (map (λ d. d - least ds) ds)))) (omega arith)
+-- at any width up to the largest it is read back
+pub chunkBy-back : (b : List ℕ → ℕ) → ((vs : List ℕ) → b vs ≤ largest (map width vs)) → (pre post ds : List ℕ)
+    → AllLe 63 ds → 0 < length ds → length ds ≤ 256
+    → chunk (pre ++ (chunkBy b ds ++ post)) (length pre) (length ds)
+    ≡ found (record { descs = ds; next = length pre + length (chunkBy b ds) })
+unfolding chunkBy
+chunkBy-back b b-le pre post ds a some few =
+    let n : length (values ds) ≡ length ds = length-map ds (λ d. d - least ds) in
+    let at : (i : ℕ) → i < length ds → least ds + getD (values ds) i 0 ≡ getD ds i 0 =
+    λ i h. rw (map-at (λ d. d - least ds) ds i h) (omega (arith, least-at ds i h)) in
+    let r = chunkOf-back pre post (values ds) (least ds) (b (values ds)) (b-le (values ds)) (omega arith)
     (omega (arith, least-at ds 0 some, all-at 63 ds 0 a some))
     (λ i h. rw (at i (omega arith)) (all-at 63 ds i a (omega arith)))
-    (widest-small (map (λ d. d - least ds) ds) (le-map (least ds) 63 ds a)) in
-    let t : table (λ i. least ds + getD (map (λ d. d - least ds) ds) i 0) 0 (length ds) ≡ ds =
-    ext-getD 0 _ ds (length-table (λ i. least ds + getD (map (λ d. d - least ds) ds) i 0) 0 (length ds))
-    (λ i h. let h′ : i < length ds = rw (length-table (λ i. least ds + getD (map (λ d. d - least ds) ds) i 0) 0 (length ds)) at h in
-    getD-table (λ i. least ds + getD (map (λ d. d - least ds) ds) i 0) 0 (length ds) i h′ ∙ rw (zero-add i) (at i h′)) in
+    (widest-small (values ds) (le-map (least ds) 63 ds a)) in
+    let f : ℕ → ℕ = λ i. least ds + getD (values ds) i 0 in
+    let long = length-table f 0 (length ds) in
+    let same : (i : ℕ) → i < length (table f 0 (length ds)) → getD (table f 0 (length ds)) i 0 ≡ getD ds i 0 =
+    λ i h. let g : i < length ds = rw long at h in
+    getD-table f 0 (length ds) i g ∙ rw (zero-add i) (at i g) in
+    let t : table f 0 (length ds) ≡ ds = ext-getD 0 _ ds long same in
     (rw (n, t) at r)

@@ -33,20 +33,31 @@ pub thirty-one : (form (from 0 31) ≡ 1 ∷ 31 ∷ 0 ∷ 0 ∷ 1 ∷ 0 ∷ 0 �
 unfolding computed
 thirty-one = (refl, refl)
 
--- 28 values of width 1: b 0 and b 1 both cost 32, and "smaller b on a tie" gives 28 exceptions
-pub tie : writeChunk (0 ∷ replicate 28 1) ≡ 0x10 ∷ 28 ∷ 0 ∷ (from 1 28 ++ (0xFF ∷ 0xFF ∷ 0xFF ∷ 0xF0 ∷ []))
+-- 29 descriptors, 28 of them of width 1: b 1 costs ceil(29·1/8) = 4, b 0 costs 32
+pub short-chunk : writeChunk (0 ∷ replicate 28 1) ≡ 0x01 ∷ 0 ∷ 0 ∷ 0x7F ∷ 0xFF ∷ 0xFF ∷ 0xF8 ∷ []
+unfolding computed
+short-chunk = refl
+
+-- 9 descriptors: b 0 and b 1 both cost 2, and "smaller b on a tie" gives an exception
+pub tie : writeChunk (replicate 8 0 ++ (1 ∷ [])) ≡ 0x10 ∷ 1 ∷ 0 ∷ 8 ∷ 0x80 ∷ []
 unfolding computed
 tie = refl
+
+-- source 002's chunk of eight values, two of them exceptions of eight bits; b 0 costs 4
+pub chunk-eight : writeChunk (0 ∷ 0 ∷ 0 ∷ 0 ∷ 0xFF ∷ 0 ∷ 0 ∷ 0xFE ∷ []) ≡ 0x80 ∷ 2 ∷ 0 ∷ 4 ∷ 7 ∷ 0xFF ∷ 0xFE ∷ []
+unfolding computed
+chunk-eight = refl
 
 -- ---- read
 
 abbrev chunk-bytes : List ℕ
 chunk-bytes = 0x32 ∷ 0x01 ∷ 0x06 ∷ 0x09 ∷ 0x01 ∷ 0xE0 ∷ []
 
--- source 002's chunk with an exception: descriptors 6, 34, 8, 7 by b1 2 and b2 3
-pub chunk-exception : table (descriptor chunk-bytes (headAt chunk-bytes 0 4)) 0 4 ≡ 6 ∷ 34 ∷ 8 ∷ 7 ∷ []
+-- source 002's chunk with an exception: descriptors 6, 34, 8, 7 by b1 2 and b2 3. It is written so too: b 2 and b 5 both cost 3
+pub chunk-exception : (table (descriptor chunk-bytes (headAt chunk-bytes 0 4)) 0 4 ≡ 6 ∷ 34 ∷ 8 ∷ 7 ∷ [])
+    × (writeChunk (6 ∷ 34 ∷ 8 ∷ 7 ∷ []) ≡ chunk-bytes)
 unfolding computed
-chunk-exception = refl
+chunk-exception = (refl, refl)
 
 -- {2,097,151}: 31 chunks of empty containers, then one whose last container holds the last position
 pub last-position : judge (1 ∷ 1 ∷ 0 ∷ 0 ∷ 0x00 ∷ 0x20 ∷ (replicate 93 0 ++ (0x10 ∷ 1 ∷ 0 ∷ 0xFF ∷ 0x80 ∷ 0xFF ∷ [])))
@@ -90,11 +101,23 @@ page-last = refl
 abbrev form-0 : List ℕ
 form-0 = 1 ∷ 1 ∷ 0 ∷ 0 ∷ 1 ∷ 0 ∷ 0 ∷ 0 ∷ 1 ∷ 0 ∷ []
 
+-- the form of {256}: 11 bytes
+abbrev form-256 : List ℕ
+form-256 = 1 ∷ 1 ∷ 0 ∷ 0 ∷ 2 ∷ 0 ∷ 0x01 ∷ 0 ∷ 0 ∷ 0x40 ∷ 0 ∷ []
+
 -- {0, 256} less {0}
-pub difference : called Difference (1 ∷ 2 ∷ 0 ∷ 0 ∷ 2 ∷ 0 ∷ 0 ∷ 0 ∷ 1 ∷ 0 ∷ 0 ∷ []) form-0 12
-    ≡ found (1 ∷ 1 ∷ 0 ∷ 0 ∷ 2 ∷ 0 ∷ 0x10 ∷ 1 ∷ 0 ∷ 0x01 ∷ 0x80 ∷ 0 ∷ [])
+pub difference : called Difference (1 ∷ 2 ∷ 0 ∷ 0 ∷ 2 ∷ 0 ∷ 0 ∷ 0 ∷ 1 ∷ 0 ∷ 0 ∷ []) form-0 12 ≡ found form-256
 unfolding computed
 difference = refl
+
+-- {256} by b1 0 and an exception, in 12 bytes: the form at a cost of 32·b. "Old masks are still accepted"
+abbrev longer-256 : List ℕ
+longer-256 = 1 ∷ 1 ∷ 0 ∷ 0 ∷ 2 ∷ 0 ∷ 0x10 ∷ 1 ∷ 0 ∷ 0x01 ∷ 0x80 ∷ 0 ∷ []
+
+-- they are read as {256}, and rewritten as its form
+pub longer-accepted : (judge longer-256 ≡ found (256 ∷ [])) × (called Union longer-256 longer-256 11 ≡ found form-256)
+unfolding computed
+longer-accepted = (refl, refl)
 
 -- "accepted as {0} and rewritten as above": an exception whose part is 0, and an empty last container
 pub rewritten : called Union (1 ∷ 1 ∷ 0 ∷ 0 ∷ 2 ∷ 0 ∷ 0x10 ∷ 1 ∷ 0 ∷ 0x00 ∷ 0x80 ∷ 0 ∷ []) form-0 10 ≡ found form-0

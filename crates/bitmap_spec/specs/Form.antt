@@ -34,9 +34,10 @@ width v = 8 - leadingZeros 8 v
 unfoldable pub wider : ℕ → List ℕ → List ℕ
 wider b vs = keep (λ v. ltb b (width v)) vs
 
--- "the cost is 32·b + e + ceil(e·b2/8)", where "e is how many values are wider than b, b2 is the largest width less b"
+-- "the cost in a chunk of n descriptors is ceil(n·b/8) + e + ceil(e·b2/8)", where "e is how many values are wider than b,
+-- b2 is the largest width less b"; n is the length of vs
 unfoldable pub cost : List ℕ → ℕ → ℕ
-cost vs b = 32 * b + length (wider b vs) + ceil8 (length (wider b vs) * (largest (map width vs) - b))
+cost vs b = ceil8 (length vs * b) + length (wider b vs) + ceil8 (length (wider b vs) * (largest (map width vs) - b))
 
 -- "least cost wins, smaller b on a tie", among 0 to b
 unfoldable pub cheapest : List ℕ → ℕ → ℕ

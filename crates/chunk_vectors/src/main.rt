@@ -1,8 +1,11 @@
-// Source 002's five chunks: their values as plain bytes, and their judgement as descriptors. The lines are compared with the file stdout.
+// Source 002's five chunks: their values as plain bytes, their judgement as descriptors, and the chunk that is written of these.
+// The lines are compared with the file stdout.
 ghost use mathlib.Core.Path.{_≡_};
+ghost use mathlib.Core.Bool.{false};
 ghost use Prim.Native.Nat.{_+_, _*_, _≤_, _<_};
 ghost use lib.ListN.{length};
 ghost use Rattle.bitmap_spec.specs.Judge.{headAt, part, descriptor};
+ghost use Rattle.bitmap_laws.proofs.Values.{AllLe};
 ghost use Rattle.chunk_vectors.specs.Within.{Laid, Within};
 use bitmap_spec::ChunkHead;
 use chunk_read::Step;
@@ -84,7 +87,38 @@ fn values(s: &[u8], n: usize) {
     show(s, h, n);
 }
 
-// Prints how the chunk is judged as n descriptors.
+// Whether any is over 63.
+fn any_large(ds: &[u8]) -> bool
+    ensures { λ r. ⌜ (r ≡ false → AllLe 63 (now (ds .entry))) ⌝ }
+{
+    let mut i = ds.len();
+    while 0 < i {
+        i -= 1;
+        if 63 < ds[i] {
+            return true;
+        }
+    }
+    false
+}
+
+// Prints the chunk that is written of descriptors up to 63.
+fn written(ds: &[u8]) {
+    let mut out = [0u8; 195];
+    if ds.len() == 0 {
+        return;
+    }
+    if 256 < ds.len() {
+        return;
+    }
+    if any_large(ds) {
+        return;
+    }
+    let size = chunk_write::put_chunk(ds, &mut out, 0);
+    vector_text::print(b"; written ");
+    vector_text::print_bytes(&out[..size]);
+}
+
+// Prints how the chunk is judged as n descriptors, and what is written of them.
 fn judged(s: &[u8], n: usize) {
     let mut out = [0u8; 256];
     if 256 < n {
@@ -98,6 +132,7 @@ fn judged(s: &[u8], n: usize) {
         Step::Next(at) => {
             io::write_all(1, b"; accepted, bytes ");
             io::print_decimal(1, at as u64);
+            written(&out[..n]);
         }
     }
 }

@@ -1,4 +1,4 @@
--- 01's examples marked P, as one table. A line is what 01 prints; Holds says what the line claims over the definitions.
+-- 01's examples marked P, as one table, with the {256} of 02. A line is what 01 prints; Holds says what the line claims over the definitions.
 use Prim.Native.Nat.{ℕ}
 use mathlib.Core.Path.{_≡_}
 use mathlib.Core.List.{List, [], _∷_}
@@ -47,8 +47,8 @@ lines =
     ∷ bitmap (0 ∷ []) (0x01 ∷ 0x01 ∷ 0x00 ∷ 0x00 ∷ 0x01 ∷ 0x00 ∷ 0x00 ∷ 0x00 ∷ 0x01 ∷ 0x00 ∷ [])
     -- "{0, 34, 255}"
     ∷ bitmap (0 ∷ 34 ∷ 255 ∷ []) (0x01 ∷ 0x03 ∷ 0x00 ∷ 0x00 ∷ 0x01 ∷ 0x00 ∷ 0x00 ∷ 0x00 ∷ 0x03 ∷ 0x00 ∷ 0x22 ∷ 0xFF ∷ [])
-    -- "{256}"
-    ∷ bitmap (256 ∷ []) (0x01 ∷ 0x01 ∷ 0x00 ∷ 0x00 ∷ 0x02 ∷ 0x00 ∷ 0x10 ∷ 0x01 ∷ 0x00 ∷ 0x01 ∷ 0x80 ∷ 0x00 ∷ [])
+    -- "{256}", which 02 (iii) amends: "{256} now takes 11 bytes"
+    ∷ bitmap (256 ∷ []) (0x01 ∷ 0x01 ∷ 0x00 ∷ 0x00 ∷ 0x02 ∷ 0x00 ∷ 0x01 ∷ 0x00 ∷ 0x00 ∷ 0x40 ∷ 0x00 ∷ [])
     -- "{0, 256}"
     ∷ bitmap (0 ∷ 256 ∷ []) (0x01 ∷ 0x02 ∷ 0x00 ∷ 0x00 ∷ 0x02 ∷ 0x00 ∷ 0x00 ∷ 0x00 ∷ 0x01 ∷ 0x00 ∷ 0x00 ∷ [])
     -- "{0} either-but-not-both {0}: the empty form"

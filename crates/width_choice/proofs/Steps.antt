@@ -1,20 +1,21 @@
 -- One value more, of what is told of the values from i on.
 -- Assumes nothing.
-use mathlib.Core.Path.{_≡_, refl, sym, ap, ap₂, _∙_}
+use mathlib.Core.Path.{_≡_, refl, sym, ap, _∙_}
 use mathlib.Core.Bool.{Bool, true, false}
-use mathlib.Core.List.{List, [], _∷_, _++_, map}
-use Prim.Native.Nat.{ℕ, zero, suc, _+_, _-_, _*_, _/_, _%_, _^_, _≤_, _<_, min, max}
-use native.Mathlib.Nat.{add-zero, zero-add, not-suc-le-zero, suc-add, add-suc, add-assoc}
+use mathlib.Core.List.{List, [], _∷_, map}
+use Prim.Native.Nat.{ℕ, suc, _+_, _-_, _*_, _≤_, _<_, min, max}
+use native.Mathlib.Nat.{not-suc-le-zero}
 use native.Mathlib.Numerals.{add-one}
 use native.Mathlib.Omega.{arith}
 use borrow.Author.Tests.{lt-ltb, le-ltb}
 use lib.Dec.{ltb}
-use lib.ListN.{length, getD, take, drop, drop-of-length-le}
+use lib.ListN.{length, getD, drop, length-map, drop-of-length-le}
 use lib.Seq.{drop-cons}
 use Rattle.common.specs.Lists.{keep}
 use Rattle.common.specs.Bytes.{ceil8}
 use Rattle.common.specs.Outcome.{pick}
 use Rattle.width_choice.specs.Over.{over}
+use Rattle.bitmap_laws.proofs.Length.{cost-widest}
 use Rattle.bitmap_spec.specs.Form.{smallest, least, largest, width, wider, cost, cheapest}
 
 pub drop-one : (l : List ℕ) (i : ℕ) → i < length l → drop i l ≡ getD l i 0 ∷ drop (i + 1) l
@@ -25,7 +26,8 @@ unfolding least
 least-start [] h = absurd (not-suc-le-zero h)
 least-start (d ∷ ds) h = refl
 
-pub least-step : (ds : List ℕ) (m i n : ℕ) → i < length ds → n ≡ min m (getD ds i 0) → smallest n (drop (i + 1) ds) ≡ smallest m (drop i ds)
+pub least-step : (ds : List ℕ) (m i n : ℕ) → i < length ds → n ≡ min m (getD ds i 0)
+    → smallest n (drop (i + 1) ds) ≡ smallest m (drop i ds)
 unfolding smallest
 least-step ds m i n h e = rw (drop-one ds i h, e)
 
@@ -68,32 +70,31 @@ over-wider (v ∷ vs) b = by-test (ltb b (width v)) (over-wider vs b)
     by-test true e = ap suc e
     by-test false e = e
 
+-- as many widths as values
+pub as-many : (vs ws : List ℕ) → ws ≡ map width vs → length ws ≡ length vs
+as-many vs ws same = ap length same ∙ length-map vs width
+
 -- the cost, by the widths of the values
 pub cost-by : (vs ws : List ℕ) (b e w : ℕ) → ws ≡ map width vs → e ≡ length (over b ws) → w ≡ largest ws
-    → 32 * b + e + ceil8 (e * (w - b)) ≡ cost vs b
+    → ceil8 (length ws * b) + e + ceil8 (e * (w - b)) ≡ cost vs b
 unfolding cost
 cost-by vs ws b e w same count top =
     let many : e ≡ length (wider b vs) = count ∙ ap (λ l. length (over b l)) same ∙ over-wider vs b in
     let most : w ≡ largest (map width vs) = top ∙ ap largest same in
-    rw (many, most)
+    rw (as-many vs ws same, many, most)
+
+-- the cost of the largest width
+pub cost-top : (vs ws : List ℕ) (b w : ℕ) → ws ≡ map width vs → w ≡ largest ws → b ≡ w
+    → ceil8 (length ws * b) ≡ cost vs b
+cost-top vs ws b w same top at =
+    let most : largest (map width vs) ≤ b = rw (← same) (omega arith) in
+    rw (as-many vs ws same) (sym (cost-widest vs b most))
 
 pub cheapest-on : (vs : List ℕ) (b : ℕ) → cost vs (b + 1) < cost vs (cheapest vs b) → cheapest vs (b + 1) ≡ b + 1
 unfolding cheapest
 cheapest-on vs b h = rw (add-one b) (rw (lt-ltb (cost vs (suc b)) (cost vs (cheapest vs b)) (rw (add-one b) at h)))
 
-pub cheapest-off : (vs : List ℕ) (b : ℕ) → cost vs (cheapest vs b) ≤ cost vs (b + 1) → cheapest vs (b + 1) ≡ cheapest vs b
+pub cheapest-off : (vs : List ℕ) (b : ℕ) → cost vs (cheapest vs b) ≤ cost vs (b + 1)
+    → cheapest vs (b + 1) ≡ cheapest vs b
 unfolding cheapest
 cheapest-off vs b h = rw (add-one b) (rw (le-ltb (cost vs (suc b)) (cost vs (cheapest vs b)) (rw (add-one b) at h)))
-
-pub cost-from : (vs : List ℕ) (b : ℕ) → 32 * b ≤ cost vs b
-unfolding cost
-cost-from vs b = omega arith
-
--- where the least cost so far is at most 32 * (b + 1), no larger width is cheaper
-pub cheapest-stop : (vs : List ℕ) (b k : ℕ) → cost vs (cheapest vs b) ≤ 32 * (b + 1) → cheapest vs (b + k) ≡ cheapest vs b
-unfolding cheapest
-cheapest-stop vs b zero h = rw (add-zero b)
-cheapest-stop vs b (suc k) h =
-    let e = cheapest-stop vs b k h in
-    let g : cost vs (cheapest vs (b + k)) ≤ cost vs (b + k + 1) = rw e (omega (arith, cost-from vs (b + k + 1))) in
-    rw (← add-one k, ← add-assoc b k 1) (cheapest-off vs (b + k) g ∙ e)

@@ -2,7 +2,10 @@
 ghost use mathlib.Core.Path.{_≡_};
 ghost use mathlib.Core.List.{List, map};
 ghost use Prim.Native.Nat.{ℕ, _+_, _-_, _*_, _≤_, _<_};
+ghost use lib.Dec.{ltb};
 ghost use lib.ListN.{length, getD};
+ghost use Rattle.common.specs.Bytes.{ceil8};
+ghost use Rattle.common.specs.Outcome.{pick};
 ghost use Rattle.bitmap_spec.specs.Form.{width, least, largest, cost, cheapest};
 ghost use Rattle.bitmap_spec.specs.Output.{written};
 ghost use Rattle.width_choice.specs.Over.{over};
@@ -77,13 +80,31 @@ pub fn wider_count(ws: &[u8], b: u32) -> usize
     e as usize
 }
 
+// How many bytes n values of b bits take, packed.
+fn packed_size(n: usize, b: u32) -> usize
+    requires { ⌜ (n ≤ 256) × (b ≤ 8) ⌝ }
+    ensures { λ r. ⌜ (r ≡ ceil8 (n * b)) × (r ≤ 256) ⌝ }
+{
+    (n * (b as usize) + 7) / 8
+}
+
 // The cost of the width b for values of these widths, where w is the largest.
 fn cost_of(ws: &[u8], w: u32, b: u32) -> usize
     requires { ⌜ (length (now ws) ≤ 256) × (w ≡ largest (now ws)) × (w ≤ 8) × (b ≤ w) ⌝ }
     ensures { λ r. ⌜ ((vs : List ℕ) → now (ws .entry) ≡ map width vs → r ≡ cost vs b) ⌝ }
 {
     let e = wider_count(ws, b);
-    32 * (b as usize) + e + (e * ((w - b) as usize) + 7) / 8
+    packed_size(ws.len(), b) + e + packed_size(e, w - b)
+}
+
+// The one of best and w that costs less, best on a tie.
+fn cheaper(best: u32, least: usize, w: u32, top: usize) -> u32
+    ensures { λ r. ⌜ r ≡ pick (ltb top least) w best ⌝ }
+{
+    if top < least {
+        return w;
+    }
+    best
 }
 
 // The width of least cost for values of these widths, the smaller on a tie.
@@ -91,13 +112,19 @@ pub fn cheapest_of(ws: &[u8], w: u32) -> u32
     requires { ⌜ (length (now ws) ≤ 256) × (w ≡ largest (now ws)) × (w ≤ 8) ⌝ }
     ensures { λ r. ⌜ ((vs : List ℕ) → now (ws .entry) ≡ map width vs → r ≡ cheapest vs w) × (r ≤ w) ⌝ }
 {
+    let top = packed_size(ws.len(), w);
     let mut best: u32 = 0;
     let mut least = cost_of(ws, w, 0);
     let mut b: u32 = 0;
     while b < w {
-        // a larger width costs at least 32 for each bit
-        if least <= 32 * (b as usize + 1) {
+        let low = packed_size(ws.len(), b + 1);
+        // a larger width costs at least its low parts
+        if least <= low {
             return best;
+        }
+        // and, below w, two bytes of exceptions more
+        if top < low + 2 {
+            return cheaper(best, least, w, top);
         }
         b += 1;
         let c = cost_of(ws, w, b);

@@ -1,22 +1,29 @@
--- best is the cheapest of the widths up to b. It stays so where it costs at most 32 for each bit of the next width.
+-- best is the cheapest of the widths up to b. It stays so where it costs at most the low parts at the next width. Where
+-- w costs less than those and two bytes more, it is best or w.
 -- Assumes nothing.
 use mathlib.Core.List.{List, map}
-use Rattle.bitmap_spec.specs.Form.{width, cost, cheapest}
-use Rattle.width_choice.proofs.Steps.{cheapest-on, cheapest-off, cheapest-stop}
+use Rattle.common.specs.Bytes.{ceil8}
+use Rattle.bitmap_spec.specs.Form.{width, largest, cost, cheapest}
+use Rattle.width_choice.proofs.Steps.{as-many, cost-top, cheapest-on, cheapest-off}
+use Rattle.width_choice.proofs.Stops.{cheapest-stop, cheapest-over, pick-le}
 use borrow.Author.Needs.{needs}
 use mathlib.Core.Path.{_≡_, refl, sym, ap, _∙_}
-use Prim.Native.Nat.{ℕ, zero, suc, _+_, _-_, _*_, _≤_, _<_}
+use Prim.Native.Nat.{ℕ, _+_, _-_, _*_, _≤_, _<_}
 use native.Mathlib.Omega.{arith}
-use lib.ListN.{length, getD}
+use lib.Dec.{ltb}
+use lib.ListN.{length}
 use Rattle.width_choice.proofs.cheapest_of.Statement.{statement}
 use Rattle.width_choice.proofs.cheapest_of.Tie as tie
 
 abbrev Inv-loop : tie.InvT-loop
-Inv-loop ws w best₀ least₀ b₀ best least b =
+Inv-loop ws w top best₀ least₀ b₀ best least b =
     (b ≤ w) × (best ≤ b) × ((vs : List ℕ) → ws ≡ map width vs → (best ≡ cheapest vs b) × (least ≡ cost vs best))
 
 abbrev μ-loop : tie.MeasureT-loop
-μ-loop ws w best₀ least₀ b₀ best least b = w - b
+μ-loop ws w top best₀ least₀ b₀ best least b = w - b
+
+packed-size-requires : tie.Need-packed-size-requires Inv-loop μ-loop
+packed-size-requires c κs = search needs
 
 cost-of-requires : tie.Need-cost-of-requires Inv-loop μ-loop
 cost-of-requires c κs = search needs
@@ -25,25 +32,52 @@ loop-holds : tie.Need-loop-holds Inv-loop μ-loop
 unfolding cheapest
 loop-holds c = (omega arith, omega arith, λ vs same. (refl, c .cost-of .ensures vs same))
 
-cast-if1 : tie.Need-cast-if1 Inv-loop μ-loop
-cast-if1 c = search needs
+add-packed-size : tie.Need-add-packed-size Inv-loop μ-loop
+add-packed-size c = search needs
 
-add-if1 : tie.Need-add-if1 Inv-loop μ-loop
-add-if1 c = search needs
-
-mul-if1 : tie.Need-mul-if1 Inv-loop μ-loop
-mul-if1 c = search needs
+packed-size-requires-2 : tie.Need-packed-size-requires-2 Inv-loop μ-loop
+packed-size-requires-2 c κs = search needs
 
 returns : tie.Need-returns Inv-loop μ-loop
 returns c =
-    let a = c .before .before .before .before .before .args in
-    let l = c .before .before .loop in
+    let l = c .before .before .before .loop in
+    let a = c .before .before .before .before .before .before .before .args in
+    let low = c .before .packed-size2 .ensures .0 in
     let rest : l .b + (a .w - l .b) ≡ a .w = omega arith in (
       λ vs same.
           let best = l .inv .2 vs same in
-          let least : cost vs (cheapest vs (l .b)) ≤ 32 * (l .b + 1) = rw (← best .0) (omega (arith, c .if1 .taken)) in
+          let least : cost vs (cheapest vs (l .b)) ≤ ceil8 (length vs * (l .b + 1)) =
+          rw (← best .0, ← as-many vs (a .ws .now) same) (omega (arith, low, best .1, c .if1 .taken)) in
           best .0 ∙ sym (rw rest at (cheapest-stop vs (l .b) (a .w - l .b) least)),
       omega arith,
+    )
+
+add-if2 : tie.Need-add-if2 Inv-loop μ-loop
+add-if2 c = search needs
+
+cheaper-requires : tie.Need-cheaper-requires Inv-loop μ-loop
+cheaper-requires c κs = search needs
+
+returns-2 : tie.Need-returns-2 Inv-loop μ-loop
+returns-2 c =
+    let loops = c .before .before .before .before .before in
+    let start = loops .before .before .before .before in
+    let a = start .args in
+    let l = loops .loop in
+    let low = c .before .before .before .packed-size2 .ensures .0 in
+    let top = loops .before .before .packed-size in
+    let more = c .before .before .before .before .loop-test .taken in
+    let chosen = c .cheaper .ensures in (
+      λ vs same.
+          let best = l .inv .2 vs same in
+          let wide : a .w ≡ largest (map width vs) = start .pre .1 ∙ ap largest same in
+          let high : top .result ≡ cost vs (a .w) =
+          top .ensures .0 ∙ cost-top vs (a .ws .now) (a .w) (a .w) same (start .pre .1) refl in
+          let less : cost vs (a .w) < ceil8 (length vs * (l .b + 1)) + 2 =
+          rw (← high, ← as-many vs (a .ws .now) same) (omega (arith, low, c .before .if2 .taken)) in
+          let over = cheapest-over vs (a .w) (l .b) wide more less in
+          chosen ∙ rw (high, best .1, best .0) (sym over),
+      rw chosen (pick-le (ltb (top .result) (l .least)) (a .w) (l .best) (a .w) (omega arith) (omega arith)),
     )
 
 add-b : tie.Need-add-b Inv-loop μ-loop
@@ -57,13 +91,13 @@ loop-less c = search needs
 
 loop-again : tie.Need-loop-again Inv-loop μ-loop
 loop-again c =
-    let l = c .before .before .before .before .loop in (
+    let l = c .before .before .before .before .before .before .loop in (
       omega arith,
       omega arith,
       λ vs same.
           let best = l .inv .2 vs same in
           let here = c .before .cost-of2 .ensures vs same in
-          (sym (cheapest-on vs (l .b) (rw (← best .0) (omega (arith, c .if2 .taken)))), here),
+          (sym (cheapest-on vs (l .b) (rw (← best .0) (omega (arith, c .if3 .taken)))), here),
     )
 
 loop-less-2 : tie.Need-loop-less-2 Inv-loop μ-loop
@@ -71,19 +105,19 @@ loop-less-2 c = search needs
 
 loop-again-2 : tie.Need-loop-again-2 Inv-loop μ-loop
 loop-again-2 c =
-    let l = c .before .before .before .before .loop in (
+    let l = c .before .before .before .before .before .before .loop in (
       omega arith,
       omega arith,
       λ vs same.
           let best = l .inv .2 vs same in
           let here = c .before .cost-of2 .ensures vs same in
-          (best .0 ∙ sym (cheapest-off vs (l .b) (rw (← best .0) (omega (arith, c .if2 .left)))), best .1),
+          (best .0 ∙ sym (cheapest-off vs (l .b) (rw (← best .0) (omega (arith, c .if3 .left)))), best .1),
     )
 
-returns-2 : tie.Need-returns-2 Inv-loop μ-loop
-returns-2 c =
+returns-3 : tie.Need-returns-3 Inv-loop μ-loop
+returns-3 c =
     let l = c .before .loop in
-    let end : l .b ≡ c .before .before .before .before .args .w = omega arith in
+    let end : l .b ≡ c .before .before .before .before .before .args .w = omega arith in
     (λ vs same. rw end at (l .inv .2 vs same .0), omega arith)
 
 pub cheapest-of-spec : {M : Type 1} → statement M
@@ -92,16 +126,19 @@ cheapest-of-spec =
     (tie.spec
     Inv-loop
     μ-loop
+    packed-size-requires
     cost-of-requires
     loop-holds
-    cast-if1
-    add-if1
-    mul-if1
+    add-packed-size
+    packed-size-requires-2
     returns
+    add-if2
+    cheaper-requires
+    returns-2
     add-b
     cost-of-requires-2
     loop-less
     loop-again
     loop-less-2
     loop-again-2
-    returns-2)
+    returns-3)

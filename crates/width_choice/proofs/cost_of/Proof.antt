@@ -1,12 +1,7 @@
 -- The count of widths over b, put into the cost formula.
 -- Assumes nothing.
-use Rattle.common.specs.Bytes.{ceil8}
-use Rattle.bitmap_spec.proofs.Parts.{prod}
 use Rattle.width_choice.proofs.Steps.{cost-by}
-use mathlib.Core.Path.{_≡_, refl, sym, ap, _∙_}
-use Prim.Native.Nat.{ℕ, zero, suc, _+_, _-_, _*_, _≤_, _<_}
 use native.Mathlib.Omega.{arith}
-use lib.ListN.{length, getD}
 use borrow.Author.Needs.{needs}
 use Rattle.width_choice.proofs.cost_of.Statement.{statement}
 use Rattle.width_choice.proofs.cost_of.Tie as tie
@@ -14,54 +9,39 @@ use Rattle.width_choice.proofs.cost_of.Tie as tie
 wider-count-requires : tie.Need-wider-count-requires
 wider-count-requires c κs = search needs
 
-mul-result : tie.Need-mul-result
-mul-result c = search needs
+packed-size-requires : tie.Need-packed-size-requires
+packed-size-requires c κs = search needs
 
 add-result : tie.Need-add-result
 add-result c = search needs
 
-sub-result : tie.Need-sub-result
-sub-result c = search needs
+sub-packed-size : tie.Need-sub-packed-size
+sub-packed-size c = search needs
 
-cast-result : tie.Need-cast-result
-cast-result c = search needs
-
-mul-result-2 : tie.Need-mul-result-2
-mul-result-2 c =
-    let args = c .before .before .args in
-    let few = prod 256 8 (c .wider-count .result) (args .w - args .b) (omega arith) (omega arith) in
-    omega arith
+packed-size-requires-2 : tie.Need-packed-size-requires-2
+packed-size-requires-2 c κs = search needs
 
 add-result-2 : tie.Need-add-result-2
-add-result-2 c =
-    let args = c .before .before .args in
-    let few = prod 256 8 (c .wider-count .result) (args .w - args .b) (omega arith) (omega arith) in
-    omega arith
-
-add-result-3 : tie.Need-add-result-3
-add-result-3 c =
-    let args = c .before .before .args in
-    let few = prod 256 8 (c .wider-count .result) (args .w - args .b) (omega arith) (omega arith) in
-    omega arith
+add-result-2 c = search needs
 
 returns : tie.Need-returns
-unfolding ceil8
 returns c =
-    let a = c .before .before .args in
+    let start = c .before .before .before .before in
+    let a = start .args in
+    let e = c .before .before .wider-count in
+    let low = c .before .packed-size .ensures .0 in
+    let high = c .packed-size2 .ensures .0 in
     λ vs same.
-    cost-by vs (a .ws .now) (a .b) (c .wider-count .result) (a .w) same (c .wider-count .ensures .0)
-    (c .before .before .pre .1)
+    omega (arith, low, high, cost-by vs (a .ws .now) (a .b) (e .result) (a .w) same (e .ensures .0) (start .pre .1))
 
 pub cost-of-spec : {M : Type 1} → statement M
 cost-of-spec =
     tie.close
     (tie.spec
     wider-count-requires
-    mul-result
+    packed-size-requires
     add-result
-    sub-result
-    cast-result
-    mul-result-2
+    sub-packed-size
+    packed-size-requires-2
     add-result-2
-    add-result-3
     returns)
