@@ -78,7 +78,7 @@ const FAULTS: &[(&str, &[&str])] = &[
             "trailing-empty-container",
             "room-one-too-many",
             "larger-width-on-a-tie",
-            "cost-of-a-short-chunk",
+            "cost-of-a-whole-chunk",
         ],
     ),
     (
@@ -377,13 +377,13 @@ pub unsafe extern "C" fn bv_bitmap_write(
 
 /// Writes the form again with another choice of widths, if that is the planted fault and it fits.
 fn repack(positions: &[u32], out: &mut [u8]) -> Option<usize> {
-    let short = planted("cost-of-a-short-chunk");
-    if !short && !planted("larger-width-on-a-tie") {
+    let whole = planted("cost-of-a-whole-chunk");
+    if !whole && !planted("larger-width-on-a-tie") {
         return None;
     }
     let form = packed_by(positions, |[n, b, e, b2]| {
-        let primary = if short { (n * b).div_ceil(8) } else { 32 * b };
-        (primary + e + (e * b2).div_ceil(8), if short { b } else { 8 - b })
+        let primary = if whole { 32 * b } else { (n * b).div_ceil(8) };
+        (primary + e + (e * b2).div_ceil(8), if whole { b } else { 8 - b })
     });
     out.get_mut(..form.len())?.copy_from_slice(&form);
     Some(form.len())

@@ -39,14 +39,13 @@ fn sound_bitmaps_stand_for_their_set() {
 #[test]
 fn the_form_has_the_widths_of_least_cost() {
     let mut random = Random::new(5);
-    let cost = |b: usize, e: usize, b2: usize| 32 * b + e + (e * b2).div_ceil(8);
+    let cost = |[n, b, e, b2]: [usize; 4]| (n * b).div_ceil(8) + e + (e * b2).div_ceil(8);
     let mut ties = 0;
     for _ in 0..3000 {
         let set = generate::bitmap::set(&mut random);
         let form = form(&set);
-        let smaller = generate::bitmap::packed_by(&set, |[_, b, e, b2]| (cost(b, e, b2), b));
-        assert!(smaller == form);
-        let larger = generate::bitmap::packed_by(&set, |[_, b, e, b2]| (cost(b, e, b2), 8 - b));
+        assert!(generate::bitmap::packed_by(&set, |width| (cost(width), width[1])) == form);
+        let larger = generate::bitmap::packed_by(&set, |width| (cost(width), 8 - width[1]));
         ties += usize::from(larger != form);
     }
     assert!(ties > 20, "{ties} sets with a tie");

@@ -1,4 +1,5 @@
-//! Mumbling bitmaps: 'Mask bytes', 'The one written form' and 'Asking a mask' of document 01.
+//! Mumbling bitmaps: 'Mask bytes', 'The one written form' and 'Asking a mask' of document 01, with the
+//! cost of document 02's (iii).
 
 use super::Refusal;
 
@@ -408,7 +409,7 @@ fn width(value: u8) -> usize {
     (8 - value.leading_zeros()) as usize
 }
 
-/// The widths of least cost, the smaller b on a tie.
+/// The widths of least cost, the smaller b on a tie. The cost of b is the length of the three arrays.
 fn choose_packing(values: &[u8]) -> Packing {
     let least = values.iter().copied().min().unwrap_or(0);
     let mut of_width = [0; 9];
@@ -420,7 +421,8 @@ fn choose_packing(values: &[u8]) -> Packing {
     let mut best = (usize::MAX, 0, 0);
     for (b, &count) in of_width.iter().enumerate().take(largest + 1) {
         wider -= count;
-        let cost = 32 * b + wider + (wider * (largest - b)).div_ceil(8);
+        let primary = (values.len() * b).div_ceil(8);
+        let cost = primary + wider + (wider * (largest - b)).div_ceil(8);
         if cost < best.0 {
             best = (cost, b, wider);
         }

@@ -15,13 +15,33 @@ fn members(bytes: &[u8]) -> Result<Vec<u32>, Refusal> {
     Ok(Bitmap::judge(bytes)?.members())
 }
 
+fn combined(operation: Operation, first: &[u8], second: &[u8]) -> Vec<u8> {
+    let mut out = vec![0; 268_390];
+    let length = combine(operation, first, second, &mut out).unwrap();
+    out.truncate(length);
+    out
+}
+
+/// The chunks of the form whose descriptors are these, each at most 32.
+fn chunks(descriptors: &[u8]) -> Vec<u8> {
+    let members = |(k, &size): (usize, &u8)| (0..u32::from(size)).map(move |i| 256 * k as u32 + i);
+    let form = form(&descriptors.iter().enumerate().flat_map(members).collect::<Vec<_>>());
+    assert_eq!(usize::from(u16::from_le_bytes([form[4], form[5]])), descriptors.len());
+    let containers: usize = descriptors.iter().map(|&size| usize::from(size)).sum();
+    form[6..form.len() - containers].to_vec()
+}
+
+/// The two ways to write {256}: b 1, which is the form, and b 0 with one exception.
+const FORM_OF_256: &str = "01 01 00 00 02 00 01 00 00 40 00";
+const LONGER_256: &str = "01 01 00 00 02 00 10 01 00 01 80 00";
+
 #[test]
-fn the_examples_of_document_01() {
+fn the_examples_of_documents_01_and_02() {
     let table: [(&[u32], &str); 5] = [
         (&[], "01 00 00 00 00 00"),
         (&[0], "01 01 00 00 01 00 00 00 01 00"),
         (&[0, 34, 255], "01 03 00 00 01 00 00 00 03 00 22 FF"),
-        (&[256], "01 01 00 00 02 00 10 01 00 01 80 00"),
+        (&[256], FORM_OF_256),
         (&[0, 256], "01 02 00 00 02 00 00 00 01 00 00"),
     ];
     for (set, hex) in table {
@@ -41,6 +61,44 @@ fn lengths_of_forms() {
 }
 
 #[test]
+fn one_member_behind_empty_containers() {
+    for k in 1..=255 {
+        assert_eq!(form(&[256 * k]).len(), if k < 8 { 11 } else { 12 }, "{k}");
+    }
+}
+
+#[test]
+fn widths_of_least_cost() {
+    let one_behind = |zeros: usize| [vec![0; zeros], vec![1]].concat();
+    let table = [
+        (vec![0, 1], "01 00 00 40"),
+        (one_behind(7), "01 00 00 01"),
+        (one_behind(16), "10 01 00 10 80"),
+        ([vec![0], vec![1; 28]].concat(), "01 00 00 7F FF FF F8"),
+        // b 0 and 1 cost 2.
+        (one_behind(8), "10 01 00 08 80"),
+        (one_behind(15), "10 01 00 0F 80"),
+        // b 2 and 5 cost 3: the last example of source 002 less 2, as no form has a descriptor over 32.
+        (vec![4, 32, 6, 5], "32 01 04 09 01 E0"),
+        // b 0 and 6 cost 2; b 1, 2 and 6 cost 3.
+        (vec![0, 32], "60 01 00 01 80"),
+        (vec![0, 1, 32], "51 01 00 40 02 80"),
+    ];
+    for (descriptors, hex) in table {
+        assert_eq!(chunks(&descriptors), bytes(hex), "{descriptors:?}");
+    }
+}
+
+#[test]
+fn a_tie_in_a_whole_chunk() {
+    // b 0 and 1 cost 32.
+    let mut expected = bytes("10 1C 00");
+    expected.extend(228..=255);
+    expected.extend(bytes("FF FF FF F0"));
+    assert_eq!(chunks(&[vec![0; 228], vec![1; 28]].concat()), expected);
+}
+
+#[test]
 fn the_longest_form() {
     let set: Vec<u32> = (0..POSITIONS).filter(|p| (p >> 8) % 256 != 0 && p % 256 < 32).collect();
     let form = form(&set);
@@ -53,6 +111,22 @@ fn a_form_that_is_not_the_one_is_rewritten() {
     let other = bytes("01 01 00 00 02 00 10 01 00 00 80 00");
     assert_eq!(members(&other).unwrap(), [0]);
     assert_eq!(form(&members(&other).unwrap()), form(&[0]));
+}
+
+#[test]
+fn the_longer_256_is_rewritten_as_the_form() {
+    let (longer, one_form, empty) = (bytes(LONGER_256), bytes(FORM_OF_256), form(&[]));
+    assert_eq!(members(&longer).unwrap(), [256]);
+    assert_eq!(form(&members(&longer).unwrap()), one_form);
+    for (first, second) in [(&longer, &longer), (&longer, &one_form), (&one_form, &longer)] {
+        assert_eq!(combined(Operation::Union, first, second), one_form);
+        assert_eq!(combined(Operation::Intersection, first, second), one_form);
+        assert_eq!(combined(Operation::Difference, first, second), empty);
+        assert_eq!(combined(Operation::SymmetricDifference, first, second), empty);
+    }
+    assert_eq!(combined(Operation::Union, &empty, &longer), one_form);
+    assert_eq!(combined(Operation::Difference, &longer, &empty), one_form);
+    assert_eq!(combined(Operation::SymmetricDifference, &longer, &empty), one_form);
 }
 
 #[test]
@@ -83,6 +157,9 @@ fn the_chunk_examples_of_source_002() {
         let refused = values.iter().any(|&value| value > 63);
         let sizes = read_sizes(&chunk, &mut vec![0; values.len()]);
         assert_eq!(sizes.err(), refused.then_some(8));
+        let mut packed = Vec::new();
+        pack_chunk(&values.iter().map(|&value| value as u8).collect::<Vec<_>>(), &mut packed);
+        assert_eq!(packed, chunk);
     }
 }
 
