@@ -2,7 +2,7 @@
 //! one fault, by name; src/bin/faults.rs lists the names. With it the tests can be seen to fail.
 
 use crate::ffi::{Field, FieldPointers};
-use crate::generate::bitmap::packed_by;
+use crate::generate::bitmap::packing::packed_by;
 use crate::reference::bitmap::{self, Operation};
 use crate::reference::{buckets, rows, schema, Answer};
 use std::slice::{from_raw_parts, from_raw_parts_mut};
@@ -381,9 +381,9 @@ fn repack(positions: &[u32], out: &mut [u8]) -> Option<usize> {
     if !whole && !planted("larger-width-on-a-tie") {
         return None;
     }
-    let form = packed_by(positions, |[n, b, e, b2]| {
-        let primary = if whole { 32 * b } else { (n * b).div_ceil(8) };
-        (primary + e + (e * b2).div_ceil(8), if whole { b } else { 8 - b })
+    let form = packed_by(positions, |width| match whole {
+        true => (width.whole_chunk_cost(), width.b),
+        false => (width.cost(), 8 - width.b),
     });
     out.get_mut(..form.len())?.copy_from_slice(&form);
     Some(form.len())

@@ -1,8 +1,10 @@
 //! Sets of positions, bitmaps of every shape, and bitmaps damaged towards each refusal.
 
 use super::{damage_bytes, Random};
+use packing::{edge_set, packed_by, Width, LENGTHS};
 
 pub mod faults;
+pub mod packing;
 
 const POSITIONS: usize = 2_097_152;
 const CHUNK: usize = 256;
@@ -10,12 +12,14 @@ const CHUNK: usize = 256;
 /// How many containers: mostly few, at times around a chunk's end, rarely all.
 fn container_count(random: &mut Random) -> usize {
     match random.below(1000) {
-        0..=1 => random.pick(&[8191, 8192]),
+        0..=1 => 31 * CHUNK + random.pick(&LENGTHS),
         2..=3 => random.between(1500, 8192),
         4..=13 => random.between(263, 1500),
-        14..=33 => random.pick(&[255, 256, 257, 511, 512, 513, 768]),
-        34..=73 => random.between(250, 262),
-        74..=400 => random.between(1, 2),
+        14..=63 => random.pick(&[0, 1, 1, 2]) * CHUNK + random.pick(&LENGTHS),
+        64..=78 => random.between(1, 3) * CHUNK,
+        79..=93 => random.between(250, 262),
+        94..=250 => random.pick(&[1, 2, 8, 9, 16, 17]),
+        251..=400 => random.between(1, 2),
         401..=850 => random.between(2, 12),
         _ => random.between(13, 60),
     }
@@ -106,7 +110,7 @@ pub fn set(random: &mut Random) -> Vec<u32> {
         121..=300 => vec![random.pick(&[0, 255, 256, 65_535, 65_536, 2_097_151])],
         301..=400 => scattered(random),
         401..=440 => run(random),
-        441..=540 => near_tie(random),
+        441..=540 => packing::near_tie(random),
         _ => by_containers(random),
     }
 }
@@ -126,36 +130,18 @@ fn run(random: &mut Random) -> Vec<u32> {
     (start as u32..(start + length) as u32).collect()
 }
 
-/// A chunk where two widths cost the same, or nearly: so many values of one width among values 0.
-fn near_tie(random: &mut Random) -> Vec<u32> {
-    let (width, count) = random.pick(&[(1, 28), (2, 51), (4, 85), (5, 98)]);
-    let count = count + random.pick(&[0, 0, 0, 1]);
-    let containers = random.between(count + 1, 256);
-    let least = random.below(33 - (1 << width).min(32));
-    let mut sizes = vec![least; containers];
-    let mut left = count;
-    while left > 0 {
-        let at = random.below(containers - 1);
-        if sizes[at] == least {
-            sizes[at] += random.between(1 << (width - 1), (1 << width) - 1);
-            left -= 1;
-        }
-    }
-    let mut set = Vec::new();
-    for (k, &size) in sizes.iter().enumerate() {
-        push_members(random, (k * 256) as u32, size, &mut set);
-    }
-    set
-}
-
+/// A set of some containers, of which the last one is mostly not empty.
 fn by_containers(random: &mut Random) -> Vec<u32> {
     let mut set = Vec::new();
     let mut density = self::density(random);
-    for k in 0..container_count(random) {
+    let containers = container_count(random);
+    let last = if random.once_in(3) { None } else { Some(containers - 1) };
+    for k in 0..containers {
         if k % CHUNK == 0 && random.once_in(2) {
             density = self::density(random);
         }
-        let count = member_count(random, density).min(256);
+        let least = usize::from(Some(k) == last);
+        let count = member_count(random, density).clamp(least, 256);
         push_members(random, (k * 256) as u32, count, &mut set);
     }
     set
@@ -280,8 +266,7 @@ struct Draft {
 impl Draft {
     /// A sound bitmap of the set in any of its shapes.
     fn of(random: &mut Random, set: &[u32]) -> Draft {
-        let used = set.last().map_or(0, |&last| (last >> 8) as usize + 1);
-        let mut count = used;
+        let mut count = used_containers(set);
         if random.once_in(4) {
             count += random.pick(&[1, 2, 5, 256, 300]);
         } else if random.once_in(200) {
@@ -327,6 +312,11 @@ impl Draft {
     }
 }
 
+/// How many containers the one written form of the set has.
+pub fn used_containers(set: &[u32]) -> usize {
+    set.last().map_or(0, |&last| (last >> 8) as usize + 1)
+}
+
 /// The bytes of each container.
 fn containers(set: &[u32], count: usize) -> Vec<Vec<u8>> {
     let mut containers = vec![Vec::new(); count];
@@ -347,29 +337,14 @@ fn dense(members: &[u8]) -> Vec<u8> {
     bits
 }
 
-/// A sound bitmap of the set, seldom in the one written form.
+/// A sound bitmap of the set: in the one written form, as the cost of a whole chunk packs it, or, mostly,
+/// in any of its shapes.
 pub fn sound(random: &mut Random, set: &[u32]) -> Vec<u8> {
-    Draft::of(random, set).bytes()
-}
-
-/// A sound bitmap of the set whose chunks have m and exceptions as in the one written form, and the
-/// b1 of least cost as `cost` says of n, b, e and b2; its second number decides a tie.
-pub fn packed_by(set: &[u32], cost: impl Fn([usize; 4]) -> (usize, usize)) -> Vec<u8> {
-    let count = set.last().map_or(0, |&last| (last >> 8) as usize + 1);
-    let containers = containers(set, count);
-    let descriptors: Vec<u8> = containers.iter().map(|c| c.len() as u8).collect();
-    let chunk = |chunk: &[u8]| {
-        let least = chunk.iter().copied().min().unwrap_or(0);
-        let width = |d: u8| bit_width(u32::from(d - least));
-        let largest = chunk.iter().map(|&d| width(d)).max().unwrap_or(0);
-        let wider = |b: usize| chunk.iter().filter(|&&d| width(d) > b).count();
-        let cost = |&b: &usize| cost([chunk.len(), b, wider(b), largest - b]);
-        let b1 = (0..=largest).min_by_key(cost).unwrap_or(0);
-        let offsets = (0..chunk.len()).filter(|&i| width(chunk[i]) > b1).map(|i| i as u8).collect();
-        chunk_of(chunk, least, b1, offsets, 0)
-    };
-    let chunks = descriptors.chunks(CHUNK).map(chunk).collect();
-    Draft::with(set, containers, chunks).bytes()
+    match random.below(8) {
+        0 => packed_by(set, Width::cost),
+        1 => packed_by(set, Width::whole_chunk_cost),
+        _ => Draft::of(random, set).bytes(),
+    }
 }
 
 /// A bitmap of the set, damaged once or twice, mostly towards a certain refusal.
@@ -548,7 +523,8 @@ pub fn damaged_list(random: &mut Random, mut list: Vec<u32>) -> Vec<u32> {
 }
 
 /// Bitmaps at the largest sizes, and one past them; then dense containers counted to the bit, faults at
-/// chosen places, and descriptors and containers that the library judges in ways of their own.
+/// chosen places, descriptors and containers that the library judges in ways of their own, and sets
+/// packed by the cost of a whole chunk.
 pub fn edge(number: u64) -> Option<Vec<u8>> {
     let number = number as usize;
     match number {
@@ -568,7 +544,8 @@ fn later_edge(number: usize) -> Option<Vec<u8>> {
     match number {
         0..=3071 => Some(alike(number)),
         3072..=3079 => Some(near_256(number - 3072)),
-        _ => not_rising(number - 3080).map(|containers| sparse_bitmap(&containers)),
+        3080..=5057 => not_rising(number - 3080).map(|containers| sparse_bitmap(&containers)),
+        _ => edge_set(number - 5058).map(|set| packed_by(&set, Width::whole_chunk_cost)),
     }
 }
 
@@ -680,7 +657,7 @@ fn sized_pair(count: usize, bytes: usize) -> (Vec<u8>, Vec<u8>) {
 
 /// Pairs of bitmaps at the largest sizes; then containers of the 32 members from each place on, against
 /// all places and against all but that one: 32 and 31 members are in both. Then pairs at the sizes where
-/// the library goes another way: 32 containers, 256, 8,160 bytes.
+/// the library goes another way: 32 containers, 256, 8,160 bytes. Then sets packed by both costs.
 pub fn edge_pair(number: u64) -> Option<(Vec<u8>, Vec<u8>)> {
     let full = || full_bitmap([0x00, 0, 32], &[]);
     let counted_pair =
@@ -696,11 +673,25 @@ pub fn edge_pair(number: u64) -> Option<(Vec<u8>, Vec<u8>)> {
         517..=519 => Some(sized_pair(number as usize - 517 + 31, 0)),
         520..=522 => Some(sized_pair(number as usize - 520 + 255, 0)),
         523..=527 => Some(sized_pair(300, number as usize - 523 + 8158)),
-        _ => None,
+        _ => packed_pair(number as usize - 528),
     }
 }
 
-/// Sets at the largest sizes, and one past them.
+/// A set packed by the cost of a whole chunk: with itself, with its form, in both orders, and with the
+/// form of every third of its members.
+fn packed_pair(number: usize) -> Option<(Vec<u8>, Vec<u8>)> {
+    let set = edge_set(number / 4)?;
+    let longer = packed_by(&set, Width::whole_chunk_cost);
+    let form = |set: &[u32]| packed_by(set, Width::cost);
+    Some(match number % 4 {
+        0 => (longer.clone(), longer),
+        1 => (longer, form(&set)),
+        2 => (form(&set), longer),
+        _ => (longer, form(&set.into_iter().skip(2).step_by(3).collect::<Vec<_>>())),
+    })
+}
+
+/// Sets at the largest sizes, and one past them; then last chunks of chosen lengths.
 pub fn edge_list(number: u64) -> Option<Vec<u32>> {
     let positions = 0..POSITIONS as u32;
     match number {
@@ -709,7 +700,7 @@ pub fn edge_list(number: u64) -> Option<Vec<u32>> {
         2 => Some(vec![2_097_151]),
         3 => Some(vec![2_097_152]),
         4 => Some((0..=POSITIONS as u32).collect()),
-        _ => None,
+        _ => edge_set(number as usize - 5),
     }
 }
 

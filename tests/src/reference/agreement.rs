@@ -9,6 +9,8 @@ use crate::generate::schema::Value;
 use crate::generate::{self, Random};
 use std::collections::BTreeSet;
 
+mod packing;
+
 fn form(set: &[u32]) -> Vec<u8> {
     let mut out = vec![0; 267_366];
     let length = bitmap::write(set, &mut out).unwrap();
@@ -37,21 +39,6 @@ fn sound_bitmaps_stand_for_their_set() {
 }
 
 #[test]
-fn the_form_has_the_widths_of_least_cost() {
-    let mut random = Random::new(5);
-    let cost = |[n, b, e, b2]: [usize; 4]| (n * b).div_ceil(8) + e + (e * b2).div_ceil(8);
-    let mut ties = 0;
-    for _ in 0..3000 {
-        let set = generate::bitmap::set(&mut random);
-        let form = form(&set);
-        assert!(generate::bitmap::packed_by(&set, |width| (cost(width), width[1])) == form);
-        let larger = generate::bitmap::packed_by(&set, |width| (cost(width), 8 - width[1]));
-        ties += usize::from(larger != form);
-    }
-    assert!(ties > 20, "{ties} sets with a tie");
-}
-
-#[test]
 fn edges_of_bitmaps() {
     let outcome = |number| bitmap::check(&generate::bitmap::edge(number).unwrap());
     assert_eq!(outcome(0), Ok(2_097_152));
@@ -59,6 +46,24 @@ fn edges_of_bitmaps() {
     assert_eq!(outcome(1), Ok(0));
     assert_eq!(outcome(2), Err(3));
     assert_eq!(outcome(3), Ok(2_097_152));
+}
+
+#[test]
+fn both_ways_to_write_256_are_edges() {
+    let one_form = vec![1, 1, 0, 0, 2, 0, 0x01, 0, 0, 0x40, 0];
+    let longer = vec![1, 1, 0, 0, 2, 0, 0x10, 1, 0, 1, 0x80, 0];
+    assert!((0..8000).any(|number| generate::bitmap::edge(number).as_ref() == Some(&longer)));
+    assert_eq!(generate::bitmap::edge_list(5), Some(vec![256]));
+    let pairs = [528, 529, 530].map(|number| generate::bitmap::edge_pair(number).unwrap());
+    let expected = [(&longer, &longer), (&longer, &one_form), (&one_form, &longer)];
+    assert_eq!(pairs.each_ref().map(|(a, b)| (a, b)), expected);
+}
+
+#[test]
+fn the_self_test_reaches_all_edges_of_bitmaps() {
+    assert!(generate::bitmap::edge(8000).is_none());
+    assert!(generate::bitmap::edge_list(2000).is_none());
+    assert!(generate::bitmap::edge_pair(2000).is_none());
 }
 
 #[test]
