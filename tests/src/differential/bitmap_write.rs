@@ -2,6 +2,7 @@
 
 use super::{edge_number, room_around, same, short, Tally, LONGEST_FORM};
 use crate::ffi::{write, Lent};
+use crate::generate::bitmap::packing::{packed_by, Width};
 use crate::generate::{bitmap as generate, Random};
 use crate::reference::bitmap::{self as reference, Bitmap};
 
@@ -24,7 +25,7 @@ pub fn run_case(case: u64, random: &mut Random, tally: &mut Tally) -> Result<(),
         let question = || format!("write with room {room}: {}", short(&list));
         same(question, write::write(&lent, room, random), expected)?;
     }
-    Ok(())
+    compare_whole_chunks(&lent, random)
 }
 
 fn write_in_room(list: &[u32], room: usize) -> Result<Vec<u8>, u32> {
@@ -32,6 +33,18 @@ fn write_in_room(list: &[u32], room: usize) -> Result<Vec<u8>, u32> {
     let length = reference::write(list, &mut out)?;
     out.truncate(length);
     Ok(out)
+}
+
+/// Whole chunks alone are written as the cost of a whole chunk packs them.
+fn compare_whole_chunks(lent: &Lent<u32>, random: &mut Random) -> Result<(), String> {
+    let list = lent.content();
+    let whole = generate::used_containers(list).is_multiple_of(256);
+    if !whole || reference::write(list, &mut vec![0; LONGEST_FORM]).is_err() {
+        return Ok(());
+    }
+    let packed = packed_by(list, Width::whole_chunk_cost);
+    let question = || format!("write whole chunks: {}", short(&list));
+    same(question, write::write(lent, packed.len(), random), Ok(packed))
 }
 
 /// The reference holds to its own round trip.

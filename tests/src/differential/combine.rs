@@ -33,8 +33,9 @@ pub fn run_case(case: u64, random: &mut Random, tally: &mut Tally) -> Result<(),
 
 fn any_pair(random: &mut Random) -> (Vec<u8>, Vec<u8>) {
     let set = generate::set(random);
-    let other = match random.below(3) {
-        0 => generate::set(random),
+    let other = match random.below(6) {
+        0 => set.clone(),
+        1 | 2 => generate::set(random),
         _ => generate::related_set(random, &set),
     };
     (any_bitmap(random, &set), any_bitmap(random, &other))

@@ -48,13 +48,15 @@ pub fn run_case(_case: u64, random: &mut Random, tally: &mut Tally) -> Result<()
     Ok(())
 }
 
-/// Accepted bitmaps, seldom in the one written form.
+/// Accepted bitmaps in any of their shapes, the one written form and what the cost of a whole chunk gives
+/// among them; at times two of the same set.
 fn leaves(random: &mut Random) -> Vec<Input> {
     let first = generate::set(random);
     let mut sets = vec![first];
     for _ in 0..random.between(1, 3) {
-        let set = match random.below(3) {
-            0 => generate::set(random),
+        let set = match random.below(6) {
+            0 => sets[0].clone(),
+            1 | 2 => generate::set(random),
             _ => generate::related_set(random, &sets[0]),
         };
         sets.push(set);
