@@ -2,13 +2,13 @@
 //! one fault, by name; src/bin/faults.rs lists the names. With it the tests can be seen to fail.
 
 use crate::ffi::{Field, FieldPointers};
-use crate::generate::bitmap::packing::packed_by;
 use crate::reference::bitmap::{self, Operation};
 use crate::reference::{buckets, rows, schema, Answer};
 use std::slice::{from_raw_parts, from_raw_parts_mut};
 use std::sync::OnceLock;
 
 mod explain;
+mod widths;
 
 /// Whether the fault of this name is planted.
 fn planted(name: &str) -> bool {
@@ -36,6 +36,7 @@ pub fn faults() -> Vec<(&'static str, String)> {
         faults.extend(names.iter().map(|name| (*group, name.to_string())));
     }
     faults.extend(explain::faults().into_iter().map(|name| ("bitmap_read", name)));
+    faults.extend(widths::faults());
     faults
 }
 
@@ -77,8 +78,6 @@ const FAULTS: &[(&str, &[&str])] = &[
             "room-before-list",
             "trailing-empty-container",
             "room-one-too-many",
-            "larger-width-on-a-tie",
-            "cost-of-a-whole-chunk",
         ],
     ),
     (
@@ -181,9 +180,10 @@ where
     if planted("input-changed") && len > 0 {
         *(bytes as *mut u8) ^= 1;
     }
-    match bitmap::Bitmap::judge(from_raw_parts(bytes, len)) {
+    let bytes = from_raw_parts(bytes, len);
+    match bitmap::Bitmap::judge(bytes) {
         Ok(bitmap) => {
-            if let Some(number) = miscounted(&bitmap) {
+            if let Some(number) = miscounted(&bitmap).or_else(|| widths::refused(bytes, &bitmap)) {
                 return number;
             }
             set(output, answer(bitmap));
@@ -311,7 +311,7 @@ unsafe fn write_form(
     write: impl FnOnce(&mut [u8]) -> Result<usize, u32>,
 ) -> u32 {
     let lent = from_raw_parts_mut(out, room);
-    match write(lent) {
+    match widths::write(lent, write) {
         Ok(mut count) => {
             if planted("writes-nothing") {
                 lent[0] ^= 1;
@@ -369,30 +369,15 @@ pub unsafe extern "C" fn bv_bitmap_write(
     length: *mut usize,
 ) -> u32 {
     let positions = from_raw_parts(positions, count);
-    write_form(out, room, length, |out| {
-        let length = bitmap::write(positions, out)?;
-        Ok(repack(positions, out).unwrap_or(length))
-    })
-}
-
-/// Writes the form again with another choice of widths, if that is the planted fault and it fits.
-fn repack(positions: &[u32], out: &mut [u8]) -> Option<usize> {
-    let whole = planted("cost-of-a-whole-chunk");
-    if !whole && !planted("larger-width-on-a-tie") {
-        return None;
-    }
-    let form = packed_by(positions, |width| match whole {
-        true => (width.whole_chunk_cost(), width.b),
-        false => (width.cost(), 8 - width.b),
-    });
-    out.get_mut(..form.len())?.copy_from_slice(&form);
-    Some(form.len())
+    write_form(out, room, length, |out| bitmap::write(positions, out))
 }
 
 fn combine(operation: Operation, a: &[u8], b: &[u8], out: &mut [u8]) -> Result<usize, u32> {
     if planted("second-judged-first") {
         bitmap::check(b)?;
     }
+    widths::judge(a)?;
+    widths::judge(b)?;
     if planted("always-empty") {
         bitmap::check(a)?;
         bitmap::check(b)?;

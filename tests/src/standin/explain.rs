@@ -257,12 +257,12 @@ fn turn(fault: &mut Fault) {
     (fault.found, fault.wanted) = (fault.wanted, fault.found);
 }
 
-fn count(bytes: &[u8]) -> usize {
+pub fn count(bytes: &[u8]) -> usize {
     usize::from(bytes[4]) + 256 * usize::from(bytes[5])
 }
 
 /// The chunk of this index. A chunk of which less than its three bytes is there ends with them.
-fn chunk_at(bytes: &[u8], index: usize) -> Chunk {
+pub fn chunk_at(bytes: &[u8], index: usize) -> Chunk {
     let mut start = 6;
     for k in 0.. {
         let head = bytes.get(start..start + 3).map_or([0; 3], |head| head.try_into().unwrap());
@@ -310,7 +310,7 @@ fn offset(bytes: &[u8], fault: Fault, choose: fn(&[Offset]) -> Option<usize>) ->
 }
 
 /// The descriptors of a chunk whose offsets are right.
-fn values(bytes: &[u8], chunk: &Chunk) -> Vec<u16> {
+pub fn values(bytes: &[u8], chunk: &Chunk) -> Vec<u16> {
     let mut values = vec![0; chunk.n];
     chunk.values(bytes, &mut values);
     values
