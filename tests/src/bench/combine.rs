@@ -28,6 +28,7 @@ fn line(operation: Operation, name: &str, first: &[u32], second: &[u32]) -> Line
     let (a, b) = (form(first), form(second));
     let sides = Sides::of(call(operation), symbol(operation));
     let (mut out, mut expected) = (vec![0; 267_366], vec![0; 267_366]);
+    let length = reference::combine(operation, &a, &b, &mut expected).expect("room for all");
     #[allow(unused_mut)]
     let mut line = measure(
         &format!("{operation:?}"),
@@ -38,7 +39,7 @@ fn line(operation: Operation, name: &str, first: &[u32], second: &[u32]) -> Line
             black_box(reference::combine(operation, &a, &b, &mut expected)).ok();
         },
     );
-    assert!(out == expected);
+    assert!(out[..length] == expected[..length]);
     #[cfg(feature = "croaring")]
     {
         line.roaring = Some(super::croaring::measure(operation, first, second));
