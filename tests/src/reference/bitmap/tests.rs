@@ -31,7 +31,7 @@ fn chunks(descriptors: &[u8]) -> Vec<u8> {
     form[6..form.len() - containers].to_vec()
 }
 
-/// The two ways to write {256}: b 1, which is the form, and b 0 with one exception.
+/// Two ways to write {256}: with b 1, which is the form, and with b 0 and an exception.
 const FORM_OF_256: &str = "01 01 00 00 02 00 01 00 00 40 00";
 const LONGER_256: &str = "01 01 00 00 02 00 10 01 00 01 80 00";
 
