@@ -7,7 +7,7 @@ use mathlib.Core.List.{List, [], _∷_, _++_, map}
 use Prim.Native.Nat.{ℕ, zero, suc, _+_, _-_, _*_, _/_, _≤_, _<_, max}
 use native.Mathlib.Nat.{suc-add, add-suc, add-zero, zero-add, add-assoc, zero-mul}
 use native.Mathlib.Omega.{arith}
-use lib.ListN.{length}
+use lib.ListN.{length, length-map}
 use Rattle.common.specs.Lists.{keep, from, mem, rising}
 use Rattle.common.specs.Outcome.{pick, both}
 use Rattle.bitmap_spec.proofs.Window.{below-or}
@@ -30,6 +30,10 @@ pub length-from : (k n : ℕ) → length (from k n) ≡ n
 unfolding from
 length-from k zero = refl
 length-from k (suc n) = ap suc (length-from (suc k) n)
+
+-- as many containers as are counted
+pub length-cuts : (l : List ℕ) → length (map (cut l) (from 0 (countOf l))) ≡ countOf l
+length-cuts l = length-map (from 0 (countOf l)) (cut l) ∙ length-from 0 (countOf l)
 
 pub keep-append : (f : ℕ → Bool) (xs ys : List ℕ) → keep f (xs ++ ys) ≡ keep f xs ++ keep f ys
 unfolding keep

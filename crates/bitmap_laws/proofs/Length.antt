@@ -22,7 +22,7 @@ use Rattle.bitmap_spec.specs.Judge.{sizeOf}
 use Rattle.bitmap_spec.specs.Sets.{IsSet}
 use Rattle.bitmap_laws.specs.Widths.{values, wholeCost}
 use Rattle.bitmap_laws.proofs.Bodies.{descs-le, sizes-are}
-use Rattle.bitmap_laws.proofs.Cuts.{length-from}
+use Rattle.bitmap_laws.proofs.Cuts.{length-cuts}
 use Rattle.bitmap_laws.proofs.Rise.{count-bound}
 use Rattle.bitmap_laws.proofs.Round.{header, form-is, six-is}
 use Rattle.bitmap_laws.proofs.Values.{AllLe, second, length-chunkAt, widest-small, le-map}
@@ -196,20 +196,16 @@ descsOf l = map descriptorOf (map (cut l) (from 0 (countOf l)))
 
 pub length-descs : (l : List ℕ) → length (descsOf l) ≡ countOf l
 unfolding descsOf
-length-descs l =
-    length-map (map (cut l) (from 0 (countOf l))) descriptorOf ∙ length-map (from 0 (countOf l)) (cut l)
-    ∙ length-from 0 (countOf l)
+length-descs l = length-map (map (cut l) (from 0 (countOf l))) descriptorOf ∙ length-cuts l
 
 pub length-form : (l : List ℕ)
     → length (form l) ≡ 6 + length (writeChunks (countOf l / 256) (descsOf l)) + sum sizeOf (descsOf l)
 unfolding form descsOf
 length-form l =
     let cs : List (List ℕ) = map (cut l) (from 0 (countOf l)) in
-    let n : length (map (cut l) (from 0 (countOf l))) ≡ countOf l =
-    length-map (from 0 (countOf l)) (cut l) ∙ length-from 0 (countOf l) in
     rw (
       form-is (length l) cs,
-      n,
+      length-cuts l,
       length-append (header (length l) (countOf l)),
       length-append (writeChunks (countOf l / 256) (map descriptorOf cs)) (writeContainers cs),
       six-is (length l) (countOf l),

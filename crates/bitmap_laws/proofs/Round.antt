@@ -15,7 +15,7 @@ use Rattle.bitmap_spec.specs.Form.{writeContainers, little}
 use Rattle.bitmap_spec.specs.Judge.{chunks, sizeOf, containersOk, membersFrom, judge, judgeBody}
 use Rattle.bitmap_spec.specs.Sets.{IsSet}
 use Rattle.bitmap_laws.proofs.Bodies.{descs-le, sizes-are, all-ok, members-back}
-use Rattle.bitmap_laws.proofs.Cuts.{AllUp, joined, joined-form, cuts-up, length-from}
+use Rattle.bitmap_laws.proofs.Cuts.{AllUp, joined, joined-form, cuts-up, length-cuts}
 use Rattle.bitmap_laws.proofs.Rise.{count-bound, rising-length}
 use Rattle.bitmap_laws.proofs.Values.{chosen-le}
 use Rattle.bitmap_laws.proofs.Written.{chunks-back, chunks-by}
@@ -30,7 +30,7 @@ pub form-is : (card : ℕ) (cs : List (List ℕ)) → formOf card cs
 unfolding formOf little header
 form-is card cs = refl
 
-pub formBy-is : (b : List ℕ → ℕ) (card : ℕ) (cs : List (List ℕ)) → formOfBy b card cs
+pub formBy-is : (b : ℕ → List ℕ → ℕ) (card : ℕ) (cs : List (List ℕ)) → formOfBy b card cs
     ≡ header card (length cs) ++ (chunksBy b (length cs / 256) (map descriptorOf cs) ++ writeContainers cs)
 unfolding formOfBy little header
 formBy-is b card cs = refl
@@ -84,7 +84,7 @@ laid-back card cs w a few small e c =
     (six card (length cs) _) (version card (length cs) _) (count-is card (length cs) _ (omega arith)) few c size ok
     members (card-is card (length cs) _ small ∙ e)
 
-module _ (b : List ℕ → ℕ) (b-le : (vs : List ℕ) → b vs ≤ largest (map width vs)) where
+module _ (b : ℕ → List ℕ → ℕ) (b-le : (k : ℕ) (vs : List ℕ) → b k vs ≤ largest (map width vs)) where
   formOf-back : (card : ℕ) (cs : List (List ℕ)) → AllUp cs → length cs ≤ 8192 → card < 16777216
       → card ≡ length (joined 0 cs) → judge (formOfBy b card cs) ≡ found (joined 0 cs)
   formOf-back card cs a few small e =
@@ -95,25 +95,24 @@ module _ (b : List ℕ → ℕ) (b-le : (vs : List ℕ) → b vs ≤ largest (ma
       let c = rw (six-is card (length cs)) at (back (map descriptorOf cs) (descs-le cs) many (omega arith)) in
       rw (formBy-is b card cs) (laid-back card cs (chunksBy b k (map descriptorOf cs)) a few small e c)
 
-  -- a set is accepted whatever widths up to the largest its chunks have
+  -- a set is accepted whatever width up to its largest each chunk has
   pub any-widths : (l : List ℕ) → IsSet l → judge (formBy b l) ≡ found l
   unfolding formBy
   any-widths l s =
       let j = joined-form l s in
-      let n : length (map (cut l) (from 0 (countOf l))) ≡ countOf l =
-      length-map (from 0 (countOf l)) (cut l) ∙ length-from 0 (countOf l) in
       let small : length l < 16777216 = omega (arith, rising-length 2097152 0 l (omega arith) s) in
       let cs : List (List ℕ) = map (cut l) (from 0 (countOf l)) in
-      formOf-back (length l) cs (cuts-up l (from 0 (countOf l))) (rw n (count-bound l s)) small (ap length (sym j))
+      let few : length (map (cut l) (from 0 (countOf l))) ≤ 8192 = rw (length-cuts l) (count-bound l s) in
+      formOf-back (length l) cs (cuts-up l (from 0 (countOf l))) few small (ap length (sym j))
       ∙ ap found j
 
 -- the form is by its cost
-pub form-by : (l : List ℕ) → form l ≡ formBy (chosenBy cost) l
+pub form-by : (l : List ℕ) → form l ≡ formBy (λ k. chosenBy cost) l
 unfolding form formBy
 form-by l =
     let cs : List (List ℕ) = map (cut l) (from 0 (countOf l)) in
     let same = chunks-by (length cs / 256) (map descriptorOf cs) in
-    rw (form-is (length l) cs, formBy-is (chosenBy cost) (length l) cs, same)
+    rw (form-is (length l) cs, formBy-is (λ k. chosenBy cost) (length l) cs, same)
 
 pub round : (l : List ℕ) → IsSet l → judge (form l) ≡ found l
-round l s = rw (form-by l) (any-widths (chosenBy cost) (chosen-le cost) l s)
+round l s = rw (form-by l) (any-widths (λ k. chosenBy cost) (λ k. chosen-le cost) l s)

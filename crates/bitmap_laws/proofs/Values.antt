@@ -90,17 +90,18 @@ unfolding cheapest cheapestBy
 cheapest-by vs zero = refl
 cheapest-by vs (suc b) = rw (cheapest-by vs b)
 
+-- one of two numbers
+pub pick-le : (t : Bool) (x y w : ℕ) → x ≤ w → y ≤ w → pick t x y ≤ w
+pick-le true x y w p q = p
+pick-le false x y w p q = q
+
 cheapestBy-le : (c : List ℕ → ℕ → ℕ) (vs : List ℕ) (b : ℕ) → cheapestBy c vs b ≤ b
 unfolding cheapestBy
 cheapestBy-le c vs zero = omega arith
-cheapestBy-le c vs (suc b) = go (ltb (c vs (suc b)) (c vs (cheapestBy c vs b))) (cheapestBy-le c vs b)
-  where
-    go : (t : Bool) → cheapestBy c vs b ≤ b → pick t (suc b) (cheapestBy c vs b) ≤ suc b
-    go true h = omega arith
-    go false h = omega arith
-
-pub cheapest-le : (vs : List ℕ) (b : ℕ) → cheapest vs b ≤ b
-cheapest-le vs b = rw (cheapest-by vs b) (cheapestBy-le cost vs b)
+cheapestBy-le c vs (suc b) =
+    let less = cheapestBy-le c vs b in
+    let t = ltb (c vs (suc b)) (c vs (cheapestBy c vs b)) in
+    pick-le t (suc b) (cheapestBy c vs b) (suc b) (omega arith) (omega arith)
 
 -- no cost chooses more than the largest width
 pub chosen-le : (c : List ℕ → ℕ → ℕ) (vs : List ℕ) → chosenBy c vs ≤ largest (map width vs)

@@ -1,4 +1,5 @@
--- Old masks: each is accepted as its set, rewritten as the form, and the form itself where every chunk is a whole one.
+-- Old masks: reading asks for no cost, so each is accepted as its set and rewritten as the form; in a chunk of 256 both
+-- costs are equal, so it is the form itself where every chunk is a whole one.
 -- Assumes nothing.
 use mathlib.Core.Path.{_≡_, refl, sym, ap, ap₂, _∙_}
 use mathlib.Core.Bool.{Bool, true, false}
@@ -17,7 +18,7 @@ use Rattle.bitmap_spec.specs.declared.Operation.the-variants.{Union}
 use Rattle.bitmap_laws.specs.Widths.{values, chunkBy, chunksBy, cheapestBy, chosenBy, wholeCost, formBy}
 use Rattle.bitmap_laws.specs.Widths.{oldForm}
 use Rattle.bitmap_laws.proofs.Accept.{judge-set}
-use Rattle.bitmap_laws.proofs.Cuts.{length-from}
+use Rattle.bitmap_laws.proofs.Cuts.{length-cuts}
 use Rattle.bitmap_laws.proofs.Length.{cost-whole}
 use Rattle.bitmap_laws.proofs.Members.{ext}
 use Rattle.bitmap_laws.proofs.Rise.{count-bound}
@@ -28,7 +29,7 @@ use Rattle.bitmap_laws.proofs.Values.{chosen-le}
 -- "Old masks are still accepted"
 pub old-accepted : (l : List ℕ) → IsSet l → judge (oldForm l) ≡ found l
 unfolding oldForm
-old-accepted l s = any-widths (chosenBy wholeCost) (chosen-le wholeCost) l s
+old-accepted l s = any-widths (λ k. chosenBy wholeCost) (λ k. chosen-le wholeCost) l s
 
 -- ---- rewriting
 with-itself : (l : List ℕ) → IsSet l → combine Union l l ≡ l
@@ -42,9 +43,9 @@ with-itself l s =
     both false = refl
 
 -- the union of an accepted bitmap with itself is the form of its set
-pub rewritten : (s l : List ℕ) (room : ℕ) → judge s ≡ found l → called Union s s room ≡ placed (form l) room
+pub rewrites : (s l : List ℕ) (room : ℕ) → judge s ≡ found l → called Union s s room ≡ placed (form l) room
 unfolding called
-rewritten s l room e = rw (e, with-itself l (judge-set s l e))
+rewrites s l room e = rw (e, with-itself l (judge-set s l e))
 
 -- ---- where every chunk is a whole one
 same-choice : (c d : List ℕ → ℕ → ℕ) (vs : List ℕ) → ((b : ℕ) → c vs b ≡ d vs b) → (b : ℕ)
@@ -61,7 +62,7 @@ chunk-whole ds n =
     (same-choice wholeCost cost (values ds) (λ b. sym (cost-whole (values ds) b all)) (largest (map width (values ds))))
 
 chunks-whole : (k : ℕ) (ds : List ℕ) → length ds ≡ k * 256
-    → chunksBy (chosenBy wholeCost) k ds ≡ chunksBy (chosenBy cost) k ds
+    → chunksBy (λ i. chosenBy wholeCost) k ds ≡ chunksBy (λ i. chosenBy cost) k ds
 unfolding chunksBy
 chunks-whole zero [] n = refl
 chunks-whole zero (d ∷ ds) n = absurd (omega arith)
@@ -74,8 +75,7 @@ pub old-whole : (l : List ℕ) → countOf l % 256 ≡ 0 → oldForm l ≡ form 
 unfolding oldForm formBy
 old-whole l h =
     let cs : List (List ℕ) = map (cut l) (from 0 (countOf l)) in
-    let many : length (map (cut l) (from 0 (countOf l))) ≡ countOf l =
-    length-map (from 0 (countOf l)) (cut l) ∙ length-from 0 (countOf l) in
     let ds = length-map (map (cut l) (from 0 (countOf l))) descriptorOf in
-    let same = chunks-whole (length cs / 256) (map descriptorOf cs) (omega (arith, ds, many)) in
-    rw (form-by l, formBy-is (chosenBy wholeCost) (length l) cs, formBy-is (chosenBy cost) (length l) cs, same)
+    let same = chunks-whole (length cs / 256) (map descriptorOf cs) (omega (arith, ds, length-cuts l)) in
+    let old = formBy-is (λ k. chosenBy wholeCost) (length l) cs in
+    rw (form-by l, old, formBy-is (λ k. chosenBy cost) (length l) cs, same)

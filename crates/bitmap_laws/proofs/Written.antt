@@ -1,4 +1,4 @@
--- All chunks are read back as the descriptors, whatever widths up to the largest they have; the form's are by its cost.
+-- All chunks are read back as the descriptors, whatever width up to its largest each has; the form's are by its cost.
 -- Assumes nothing.
 use mathlib.Core.Path.{_≡_, refl, ap, ap₂, _∙_}
 use mathlib.Core.List.{List, [], _∷_, _++_, map, append-assoc, append-nil}
@@ -61,7 +61,7 @@ chunk-then pre first rest post acc ds es k r one more =
     ) at more in
     rw (append-assoc first rest post) (here ∙ after)
 
-module _ (b : List ℕ → ℕ) (b-le : (vs : List ℕ) → b vs ≤ largest (map width vs)) where
+module _ (b : ℕ → List ℕ → ℕ) (b-le : (k : ℕ) (vs : List ℕ) → b k vs ≤ largest (map width vs)) where
   pub chunks-back : (pre post acc : List ℕ) (k r : ℕ) (ds : List ℕ) → AllLe 63 ds → length ds ≡ k * 256 + r → r < 256
       → chunks (pre ++ (chunksBy b k ds ++ post)) (length pre) acc k r
       ≡ found (record { descs = acc ++ ds; next = length pre + length (chunksBy b k ds) })
@@ -71,26 +71,26 @@ module _ (b : List ℕ → ℕ) (b-le : (vs : List ℕ) → b vs ≤ largest (ma
   chunks-back pre post acc zero zero (d ∷ ds) a n h = absurd (omega arith)
   chunks-back pre post acc zero (suc r) (d ∷ ds) a n h =
       let e : length (d ∷ ds) ≡ suc r = omega arith in
-      let one = rw e at (chunkBy-back b b-le pre post (d ∷ ds) a (omega arith) (omega arith)) in
-      let all : List ℕ = pre ++ (chunkBy b (d ∷ ds) ++ post) in
-      last-is all (length pre) acc r (length pre + length (chunkBy b (d ∷ ds))) (d ∷ ds) one
+      let one = rw e at (chunkBy-back (b 0) (b-le 0) pre post (d ∷ ds) a (omega arith) (omega arith)) in
+      let all : List ℕ = pre ++ (chunkBy (b 0) (d ∷ ds) ++ post) in
+      last-is all (length pre) acc r (length pre + length (chunkBy (b 0) (d ∷ ds))) (d ∷ ds) one
   chunks-back pre post acc (suc k) r ds a n h =
       let first = all-take 63 256 ds a in
       let t : length (take 256 ds) ≡ 256 = length-take-le 256 ds (omega arith) in
-      let read = chunkBy-back b b-le pre (chunksBy b k (drop 256 ds) ++ post) (take 256 ds) first in
+      let read = chunkBy-back (b (suc k)) (b-le (suc k)) pre (chunksBy b k (drop 256 ds) ++ post) (take 256 ds) first in
       let one = rw t at (read (rw t (omega arith)) (rw t (omega arith))) in
       let left : length (drop 256 ds) ≡ k * 256 + r = length-drop 256 ds ∙ omega arith in
-      let on = chunks-back (pre ++ chunkBy b (take 256 ds)) post (acc ++ take 256 ds) k r (drop 256 ds) in
+      let on = chunks-back (pre ++ chunkBy (b (suc k)) (take 256 ds)) post (acc ++ take 256 ds) k r (drop 256 ds) in
       let more = on (all-drop 63 256 ds a) left h in
-      rw (take-append-drop 256 ds) at (chunk-then pre (chunkBy b (take 256 ds)) (chunksBy b k (drop 256 ds)) post acc
-      (take 256 ds) (drop 256 ds) k r one more)
+      let all = chunk-then pre (chunkBy (b (suc k)) (take 256 ds)) (chunksBy b k (drop 256 ds)) post acc in
+      rw (take-append-drop 256 ds) at (all (take 256 ds) (drop 256 ds) k r one more)
 
 -- ---- the chunks of the form are those of its cost
 pub chunk-by : (ds : List ℕ) → writeChunk ds ≡ chunkBy (chosenBy cost) ds
 unfolding writeChunk chunkBy chosenBy
 chunk-by ds = ap (λ b. chunkOf (values ds) (least ds) b) (cheapest-by (values ds) (largest (map width (values ds))))
 
-pub chunks-by : (k : ℕ) (ds : List ℕ) → writeChunks k ds ≡ chunksBy (chosenBy cost) k ds
+pub chunks-by : (k : ℕ) (ds : List ℕ) → writeChunks k ds ≡ chunksBy (λ i. chosenBy cost) k ds
 unfolding writeChunks chunksBy
 chunks-by zero [] = refl
 chunks-by zero (d ∷ ds) = chunk-by (d ∷ ds)

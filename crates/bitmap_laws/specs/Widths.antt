@@ -1,4 +1,4 @@
--- A form by any choice of widths: what a writer with another cost than ours writes.
+-- A form by any choice of a width for each chunk: what a writer with another cost than ours writes.
 use Prim.Native.Nat.{ℕ, zero, suc, _+_, _-_, _*_, _/_}
 use mathlib.Core.List.{List, [], _∷_, _++_, map}
 use lib.Dec.{ltb}
@@ -13,22 +13,24 @@ use Rattle.bitmap_spec.specs.Form.{little}
 abbrev pub values : List ℕ → List ℕ
 values ds = map (λ d. d - least ds) ds
 
--- ---- b gives the width for the values of a chunk; all else is as in the form
+-- ---- all but the widths is as in the form
 
+-- b gives the width for the values
 unfoldable pub chunkBy : (List ℕ → ℕ) → List ℕ → List ℕ
 chunkBy b ds = chunkOf (values ds) (least ds) (b (values ds))
 
-unfoldable pub chunksBy : (List ℕ → ℕ) → ℕ → List ℕ → List ℕ
+-- b k gives it for the chunk that has k whole ones from it on
+unfoldable pub chunksBy : (ℕ → List ℕ → ℕ) → ℕ → List ℕ → List ℕ
 chunksBy b zero [] = []
-chunksBy b zero (d ∷ ds) = chunkBy b (d ∷ ds)
-chunksBy b (suc k) ds = chunkBy b (take 256 ds) ++ chunksBy b k (drop 256 ds)
+chunksBy b zero (d ∷ ds) = chunkBy (b 0) (d ∷ ds)
+chunksBy b (suc k) ds = chunkBy (b (suc k)) (take 256 ds) ++ chunksBy b k (drop 256 ds)
 
-unfoldable pub formOfBy : (List ℕ → ℕ) → ℕ → List (List ℕ) → List ℕ
+unfoldable pub formOfBy : (ℕ → List ℕ → ℕ) → ℕ → List (List ℕ) → List ℕ
 formOfBy b card cs =
     1 ∷ (little card 3 ++ (little (length cs) 2
     ++ (chunksBy b (length cs / 256) (map descriptorOf cs) ++ writeContainers cs)))
 
-unfoldable pub formBy : (List ℕ → ℕ) → List ℕ → List ℕ
+unfoldable pub formBy : (ℕ → List ℕ → ℕ) → List ℕ → List ℕ
 formBy b l = formOfBy b (length l) (map (cut l) (from 0 (countOf l)))
 
 -- ---- the width of least cost, for any cost: "least cost wins, smaller b on a tie", "up to the largest width"
@@ -46,4 +48,4 @@ wholeCost vs b = 32 * b + length (wider b vs) + ceil8 (length (wider b vs) * (la
 
 -- the form by that cost: 02's "old masks"
 unfoldable pub oldForm : List ℕ → List ℕ
-oldForm l = formBy (chosenBy wholeCost) l
+oldForm l = formBy (λ k. chosenBy wholeCost) l

@@ -1,4 +1,4 @@
--- A dozen worked examples of the definitions, computed: each statement holds because both its sides compute to the same.
+-- Worked examples of the definitions, computed: each statement holds because both its sides compute to the same.
 -- The lines of the proved table are in `proved_table`; all other examples are run, by the programs `bitmap_vectors`,
 -- `write_vectors`, `chunk_vectors` and `step_vectors`.
 -- Assumes nothing.
@@ -53,7 +53,8 @@ chunk-eight = refl
 abbrev chunk-bytes : List ℕ
 chunk-bytes = 0x32 ∷ 0x01 ∷ 0x06 ∷ 0x09 ∷ 0x01 ∷ 0xE0 ∷ []
 
--- source 002's chunk with an exception: descriptors 6, 34, 8, 7 by b1 2 and b2 3. It is written so too: b 2 and b 5 both cost 3
+-- source 002's chunk with an exception: descriptors 6, 34, 8, 7 by b1 2 and b2 3. It is written so too, on a tie: b 2 and
+-- b 5 both cost 3
 pub chunk-exception : (table (descriptor chunk-bytes (headAt chunk-bytes 0 4)) 0 4 ≡ 6 ∷ 34 ∷ 8 ∷ 7 ∷ [])
     × (writeChunk (6 ∷ 34 ∷ 8 ∷ 7 ∷ []) ≡ chunk-bytes)
 unfolding computed

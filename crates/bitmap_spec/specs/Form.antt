@@ -34,8 +34,8 @@ width v = 8 - leadingZeros 8 v
 unfoldable pub wider : ℕ → List ℕ → List ℕ
 wider b vs = keep (λ v. ltb b (width v)) vs
 
--- "the cost in a chunk of n descriptors is ceil(n·b/8) + e + ceil(e·b2/8)", where "e is how many values are wider than b,
--- b2 is the largest width less b"; n is the length of vs
+-- "the cost in a chunk of n descriptors is ceil(n·b/8) + e + ceil(e·b2/8)", where "e is how many values are wider than
+-- b, b2 is the largest width less b"; n is the length of vs
 unfoldable pub cost : List ℕ → ℕ → ℕ
 cost vs b = ceil8 (length vs * b) + length (wider b vs) + ceil8 (length (wider b vs) * (largest (map width vs) - b))
 

@@ -1,5 +1,5 @@
-// Source 002's five chunks: their values as plain bytes, their judgement as descriptors, and the chunk that is written of these.
-// The lines are compared with the file stdout.
+// Source 002's five chunks: their values as plain bytes, their judgement as descriptors, and the chunk that is written of
+// these. The lines are compared with the file stdout.
 ghost use mathlib.Core.Path.{_≡_};
 ghost use mathlib.Core.Bool.{false};
 ghost use Prim.Native.Nat.{_+_, _*_, _≤_, _<_};

@@ -28,7 +28,7 @@ use Rattle.bitmap_laws.proofs.Containers.{keep-same}
 use Rattle.width_choice.specs.Over.{over}
 use Rattle.width_choice.proofs.Steps.{over-wider}
 use Rattle.bitmap_laws.proofs.Length.{sizeAt, length-chunkOf, by-place, chunk-size}
-use Rattle.bitmap_laws.proofs.Values.{AllLe, second, map-at, least-at, le-map, widest-small, all-at, cheapest-le}
+use Rattle.bitmap_laws.proofs.Values.{AllLe, second, map-at, least-at, le-map, widest-small, all-at}
 use Rattle.bitmap_laws.proofs.Output.{written-none, length-written, written-more, written-cat, taken}
 use Rattle.chunk_parts.proofs.Turns.{offs-few}
 use Rattle.chunk_parts.specs.Kept.{offsets, isOver}

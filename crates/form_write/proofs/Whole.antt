@@ -15,7 +15,7 @@ use Rattle.bitmap_spec.specs.Output.{written, placed, Gives}
 use Rattle.bitmap_spec.specs.Sets.{IsSet}
 use Rattle.bitmap_spec.specs.declared.Written.the-variants.{Refused, Length}
 use Rattle.bitmap_laws.proofs.Bodies.{descs-le, sizes-are}
-use Rattle.bitmap_laws.proofs.Cuts.{joined-form, joined-cut, length-from}
+use Rattle.bitmap_laws.proofs.Cuts.{joined-form, joined-cut, length-cuts}
 use Rattle.bitmap_laws.proofs.Length.{form-bound}
 use Rattle.bitmap_laws.proofs.Output.{written-cat, from-start, refuse13, give}
 use Rattle.bitmap_laws.proofs.Rise.{count-bound}
@@ -79,9 +79,7 @@ module _ (l : List ℕ) (n card : ℕ) (ds : List ℕ) (d : Describes l n card d
       form l ≡ header card (length ds) ++ (writeChunks (length ds / 256) ds ++ writeContainers (map (cut l) (from 0 n)))
   unfolding form descsTo
   parts =
-      let k : length (map (cut l) (from 0 (countOf l))) ≡ countOf l =
-      length-map (from 0 (countOf l)) (cut l) ∙ length-from 0 (countOf l) in
-      form-is (length l) (map (cut l) (from 0 (countOf l))) ∙ rw (many, d .descs, d .count, k, d .cardinality)
+      form-is (length l) (map (cut l) (from 0 (countOf l))) ∙ rw (many, d .descs, d .count, length-cuts l, d .cardinality)
 
   parts-length :
       length (form l) ≡ 6 +

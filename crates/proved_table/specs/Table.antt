@@ -1,4 +1,5 @@
--- 01's examples marked P, as one table, with the {256} of 02. A line is what 01 prints; Holds says what the line claims over the definitions.
+-- 01's examples marked P, with 02's bytes of {256}, as one table. A line is what the papers print; Holds says what the
+-- line claims over the definitions.
 use Prim.Native.Nat.{ℕ}
 use mathlib.Core.Path.{_≡_}
 use mathlib.Core.List.{List, [], _∷_}

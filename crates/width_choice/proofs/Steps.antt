@@ -84,11 +84,10 @@ cost-by vs ws b e w same count top =
     rw (as-many vs ws same, many, most)
 
 -- the cost of the largest width
-pub cost-top : (vs ws : List ℕ) (b w : ℕ) → ws ≡ map width vs → w ≡ largest ws → b ≡ w
-    → ceil8 (length ws * b) ≡ cost vs b
-cost-top vs ws b w same top at =
-    let most : largest (map width vs) ≤ b = rw (← same) (omega arith) in
-    rw (as-many vs ws same) (sym (cost-widest vs b most))
+pub cost-top : (vs ws : List ℕ) (w : ℕ) → ws ≡ map width vs → w ≡ largest ws → ceil8 (length ws * w) ≡ cost vs w
+cost-top vs ws w same top =
+    let most : largest (map width vs) ≤ w = rw (← same) (omega arith) in
+    rw (as-many vs ws same) (sym (cost-widest vs w most))
 
 pub cheapest-on : (vs : List ℕ) (b : ℕ) → cost vs (b + 1) < cost vs (cheapest vs b) → cheapest vs (b + 1) ≡ b + 1
 unfolding cheapest

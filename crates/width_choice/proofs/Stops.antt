@@ -1,8 +1,8 @@
--- Where the search for the width may end before the largest.
+-- Where the search for the width may end before the largest: a width costs at least its low parts, and below the
+-- largest two bytes more, since some value is wider.
 -- Assumes nothing.
 use mathlib.Core.Path.{_≡_, _∙_}
 use mathlib.Core.Logic.{_⊎_, inl, inr, ⊎-elim}
-use mathlib.Core.Bool.{Bool, true, false}
 use mathlib.Core.List.{List, [], _∷_, map}
 use Prim.Native.Nat.{ℕ, zero, suc, _+_, _-_, _*_, _≤_, _<_}
 use native.Mathlib.Nat.{add-zero, not-suc-le-zero, add-assoc}
@@ -52,27 +52,27 @@ cost-below vs b h =
     let parts = prod (length (wider b vs)) (largest (map width vs) - b) 1 1 e (omega arith) in
     omega (arith, e, parts)
 
--- where w costs less than each width between b and w, none of these is cheaper than both
-between : (vs : List ℕ) (w b k : ℕ) → ((c : ℕ) → b < c → c ≤ b + k → cost vs w < cost vs c)
-    → (cheapest vs (b + k) ≡ cheapest vs b)
-    ⊎ ((cost vs w < cost vs (cheapest vs (b + k))) × (cost vs (cheapest vs (b + k)) ≤ cost vs (cheapest vs b)))
+-- the cheapest up to n is that up to b, or costs more than w and no more than that up to b
+abbrev Either : List ℕ → ℕ → ℕ → ℕ → Type 0
+Either vs w b n =
+    (cheapest vs n ≡ cheapest vs b)
+    ⊎ ((cost vs w < cost vs (cheapest vs n)) × (cost vs (cheapest vs n) ≤ cost vs (cheapest vs b)))
+
+-- where w costs less than each width between b and w
+between : (vs : List ℕ) (w b k : ℕ) → ((c : ℕ) → b < c → c ≤ b + k → cost vs w < cost vs c) → Either vs w b (b + k)
 between vs w b zero h = inl (rw (add-zero b))
 between vs w b (suc k) h =
     let before = between vs w b k (λ c p q. h c p (omega arith)) in
     rw (← add-one k, ← add-assoc b k 1) (⊎-elim (taken before) (left before) (below-or (cost vs (b + k + 1)) _))
   where
-    Either : ℕ → Type 0
-    Either n = (cheapest vs n ≡ cheapest vs b)
-        ⊎ ((cost vs w < cost vs (cheapest vs n)) × (cost vs (cheapest vs n) ≤ cost vs (cheapest vs b)))
-
-    taken : Either (b + k) → cost vs (b + k + 1) < cost vs (cheapest vs (b + k)) → Either (b + k + 1)
+    taken : Either vs w b (b + k) → cost vs (b + k + 1) < cost vs (cheapest vs (b + k)) → Either vs w b (b + k + 1)
     taken before g =
         let here = h (b + k + 1) (omega arith) (omega arith) in
         let at : cost vs (cheapest vs (b + k)) ≤ cost vs (cheapest vs b) =
         ⊎-elim (λ e. rw e (omega arith)) (λ e. e .1) before in
         rw (cheapest-on vs (b + k) g) (inr (here, omega (arith, g, at)))
 
-    left : Either (b + k) → cost vs (cheapest vs (b + k)) ≤ cost vs (b + k + 1) → Either (b + k + 1)
+    left : Either vs w b (b + k) → cost vs (cheapest vs (b + k)) ≤ cost vs (b + k + 1) → Either vs w b (b + k + 1)
     left before g = rw (cheapest-off vs (b + k) g) before
 
 -- then it is the cheaper of w and the cheapest up to b
@@ -104,7 +104,3 @@ cheapest-over vs w b top h less = ⊎-elim same other (between vs w b k each)
     other e =
         let on = cheapest-on vs (b + k) (rw last (e .0)) in
         rw (lt-ltb (cost vs w) (cost vs (cheapest vs b)) (omega (arith, e .0, e .1))) (rw last at on)
-
-pub pick-le : (t : Bool) (x y w : ℕ) → x ≤ w → y ≤ w → pick t x y ≤ w
-pick-le true x y w p q = p
-pick-le false x y w p q = q

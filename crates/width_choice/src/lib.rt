@@ -122,7 +122,7 @@ pub fn cheapest_of(ws: &[u8], w: u32) -> u32
         if least <= low {
             return best;
         }
-        // and, below w, two bytes of exceptions more
+        // and, below w, two bytes of exceptions more: then w is settled with no further count
         if top < low + 2 {
             return cheaper(best, least, w, top);
         }

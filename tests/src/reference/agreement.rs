@@ -59,11 +59,16 @@ fn both_ways_to_write_256_are_edges() {
     assert_eq!(pairs.each_ref().map(|(a, b)| (a, b)), expected);
 }
 
+/// tests/self-test has two numbers of cases: of most groups, and of bitmap_read. Edges begin at case 1,000.
 #[test]
 fn the_self_test_reaches_all_edges_of_bitmaps() {
-    assert!(generate::bitmap::edge(8000).is_none());
-    assert!(generate::bitmap::edge_list(2000).is_none());
-    assert!(generate::bitmap::edge_pair(2000).is_none());
+    let number = |text: &str| text.lines().next().and_then(|line| line.parse::<u64>().ok());
+    let script = include_str!("../../self-test");
+    let edges: Vec<u64> = script.split("cases=").filter_map(number).map(|n| n - 1000).collect();
+    let [most, read] = edges[..] else { panic!("{} numbers of cases", edges.len()) };
+    assert!(generate::bitmap::edge(read).is_none());
+    assert!(generate::bitmap::edge_list(most).is_none());
+    assert!(generate::bitmap::edge_pair(most).is_none());
 }
 
 #[test]

@@ -71,7 +71,7 @@ pub fn write(
 type Refuses = fn(&[u8], &Bitmap) -> bool;
 
 const READERS: [(&str, Refuses); 3] = [
-    ("refuses-longer-chunks", |bytes, _| has_longer_chunk(bytes)),
+    ("refuses-longer-chunks", |bytes, _| has_longer_last_chunk(bytes)),
     ("refuses-cost-of-a-whole-chunk", |bytes, bitmap| {
         let set = bitmap.members();
         packed_by(&set, Width::whole_chunk_cost) == bytes && packed_by(&set, Width::cost) != bytes
@@ -80,7 +80,7 @@ const READERS: [(&str, Refuses); 3] = [
 ];
 
 /// Whether the last chunk can be written shorter.
-fn has_longer_chunk(bytes: &[u8]) -> bool {
+fn has_longer_last_chunk(bytes: &[u8]) -> bool {
     let Some(last) = count(bytes).div_ceil(256).checked_sub(1) else { return false };
     let chunk = chunk_at(bytes, last);
     let descriptors: Vec<u8> = values(bytes, &chunk).iter().map(|&value| value as u8).collect();

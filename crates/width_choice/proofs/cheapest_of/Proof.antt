@@ -5,7 +5,8 @@ use mathlib.Core.List.{List, map}
 use Rattle.common.specs.Bytes.{ceil8}
 use Rattle.bitmap_spec.specs.Form.{width, largest, cost, cheapest}
 use Rattle.width_choice.proofs.Steps.{as-many, cost-top, cheapest-on, cheapest-off}
-use Rattle.width_choice.proofs.Stops.{cheapest-stop, cheapest-over, pick-le}
+use Rattle.width_choice.proofs.Stops.{cheapest-stop, cheapest-over}
+use Rattle.bitmap_laws.proofs.Values.{pick-le}
 use borrow.Author.Needs.{needs}
 use mathlib.Core.Path.{_≡_, refl, sym, ap, _∙_}
 use Prim.Native.Nat.{ℕ, _+_, _-_, _*_, _≤_, _<_}
@@ -72,7 +73,7 @@ returns-2 c =
           let best = l .inv .2 vs same in
           let wide : a .w ≡ largest (map width vs) = start .pre .1 ∙ ap largest same in
           let high : top .result ≡ cost vs (a .w) =
-          top .ensures .0 ∙ cost-top vs (a .ws .now) (a .w) (a .w) same (start .pre .1) refl in
+          top .ensures .0 ∙ cost-top vs (a .ws .now) (a .w) same (start .pre .1) in
           let less : cost vs (a .w) < ceil8 (length vs * (l .b + 1)) + 2 =
           rw (← high, ← as-many vs (a .ws .now) same) (omega (arith, low, c .before .if2 .taken)) in
           let over = cheapest-over vs (a .w) (l .b) wide more less in
