@@ -10,13 +10,14 @@ use lib.ListN.{length, take, drop, length-map, length-drop}
 use lib.Seq.{length-take-le}
 use Rattle.common.specs.Lists.{mem, from}
 use Rattle.common.specs.Outcome.{found}
+use Rattle.bitmap_spec.proofs.Examples.{computed}
 use Rattle.bitmap_spec.specs.Form.{form, cut, countOf, descriptorOf, width, largest, least, cost, chunkOf}
 use Rattle.bitmap_spec.specs.Judge.{judge}
 use Rattle.bitmap_spec.specs.Output.{called, placed}
 use Rattle.bitmap_spec.specs.Sets.{IsSet, holds, combine}
 use Rattle.bitmap_spec.specs.declared.Operation.the-variants.{Union}
 use Rattle.bitmap_laws.specs.Widths.{values, chunkBy, chunksBy, cheapestBy, chosenBy, wholeCost, formBy}
-use Rattle.bitmap_laws.specs.Widths.{oldForm}
+use Rattle.bitmap_laws.specs.Widths.{formOfBy, oldForm}
 use Rattle.bitmap_laws.proofs.Accept.{judge-set}
 use Rattle.bitmap_laws.proofs.Cuts.{length-cuts}
 use Rattle.bitmap_laws.proofs.Length.{cost-whole}
@@ -30,6 +31,11 @@ use Rattle.bitmap_laws.proofs.Values.{chosen-le}
 pub old-accepted : (l : List ℕ) → IsSet l → judge (oldForm l) ≡ found l
 unfolding oldForm
 old-accepted l s = any-widths (λ k. chosenBy wholeCost) (λ k. chosen-le wholeCost) l s
+
+-- 01's bytes of {256}
+pub old-256 : oldForm (256 ∷ []) ≡ 0x01 ∷ 0x01 ∷ 0x00 ∷ 0x00 ∷ 0x02 ∷ 0x00 ∷ 0x10 ∷ 0x01 ∷ 0x00 ∷ 0x01 ∷ 0x80 ∷ 0x00 ∷ []
+unfolding computed chunkBy chunksBy formOfBy formBy cheapestBy chosenBy wholeCost oldForm
+old-256 = refl
 
 -- ---- rewriting
 with-itself : (l : List ℕ) → IsSet l → combine Union l l ≡ l

@@ -133,5 +133,6 @@ pub fn cheapest_of(ws: &[u8], w: u32) -> u32
             least = c;
         }
     }
+    // only a w of 0 ends here
     best
 }
