@@ -27,7 +27,8 @@ use Rattle.bucket_laws.proofs.Live.{count-none}
 pub record Table (s : List ℕ) (t : ColumnType) (table : ℕ) : Type 0 where
   pub entries : ℕ
   pub first : ℕ
-  pub count : varintAt s table ≡ varint.Number entries first
+  pub short : Bool
+  pub count : varintAt s table ≡ varint.Number entries first short
   pub least : 2 ≤ entries
   pub most : entries ≤ 255
   pub end : ℕ
@@ -47,11 +48,12 @@ table-is s t at next h = by-count (varintAt s at) refl h
         ≡ found next → Table s t at
     by-count varint.CutShort p q = clash (cc)
     by-count varint.IllFormed p q = clash (cc)
-    by-count (varint.Number e first) p q =
+    by-count (varint.Number e first short) p q =
         let k = need-found (both (leb 2 e) (leb e 255)) 33 (values s t e first) next q in
         record {
           entries = e;
           first = first;
+          short = short;
           count = p;
           least = leb-true 2 e (both-left (leb 2 e) (leb e 255) (k .0));
           most = leb-true e 255 (both-right (leb 2 e) (leb e 255) (k .0));
@@ -114,8 +116,8 @@ module _ (s : List ℕ) (t : ColumnType) (tag : ℕ) (mapped : Bool) (r const ta
   unfolding valueOf
   value-plain q h = rw q h
 
-  pub value-dict : tag ≡ 2 → (e first : ℕ) → varintAt s table ≡ varint.Number e first
+  pub value-dict : tag ≡ 2 → (e first : ℕ) (short : Bool) → varintAt s table ≡ varint.Number e first short
       → nth s t first (lowBits s cells (live s mapped nulls r * indexWidth e) (indexWidth e)) ≡ found f
       → valueOf s t tag mapped r const table nulls cells ≡ found f
   unfolding valueOf entryOf
-  value-dict q e first c h = rw (q, c) h
+  value-dict q e first short c h = rw (q, c) h

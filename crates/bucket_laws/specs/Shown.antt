@@ -2,7 +2,7 @@
 use Prim.Native.Nat.{ℕ, suc, _+_, _*_, _^_, _≤_, _<_}
 use mathlib.Core.Path.{_≡_}
 use mathlib.Core.Logic.{_⊎_}
-use mathlib.Core.Bool.{true}
+use mathlib.Core.Bool.{Bool, true}
 use mathlib.Core.List.{List}
 use lib.ListN.{length, getD}
 use Rattle.common.specs.Outcome.{found}
@@ -40,7 +40,9 @@ pub record CeilLog (e w : ℕ) : Type 0 where
 pub record Entry (s : List ℕ) (t : ColumnType) (table cells m j : ℕ) (f : Field) : Type 0 where
   pub entries : ℕ
   pub first : ℕ
-  pub count : varintAt s table ≡ Number entries first
+  -- whether the number is shortest is free
+  pub short : Bool
+  pub count : varintAt s table ≡ Number entries first short
   pub least : 2 ≤ entries
   pub most : entries ≤ 255
   pub width : CeilLog entries (indexWidth entries)

@@ -149,7 +149,7 @@ fn head_number(s: &[u8], at: usize, k: u32) -> Next
     match numbers::varint(s, at) {
         Varint::CutShort => Next::Refused(31),
         Varint::IllFormed => Next::Refused(30),
-        Varint::Number(m, next) => {
+        Varint::Number(m, next, _) => {
             if m != k {
                 return Next::Refused(30);
             }

@@ -3,4 +3,5 @@
 mod bitmap_reading;
 mod bitmap_writing;
 mod bucket_calls;
+mod number_calls;
 mod row_calls;

@@ -135,12 +135,9 @@ fn last_group(b: u64, w: u64, v: u64, next: usize) -> Varint
         return Varint::IllFormed;
     }
     if 0 < b {
-        return Varint::Number(n as u32, next);
+        return Varint::Number(n as u32, next, true);
     }
-    if 1 < w {
-        return Varint::IllFormed;
-    }
-    Varint::Number(n as u32, next)
+    Varint::Number(n as u32, next, w <= 1)
 }
 
 // The varint at `at`.

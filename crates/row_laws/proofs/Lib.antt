@@ -1,4 +1,7 @@
 pub mod Varints
+pub mod Forms
+pub mod Strict
+pub mod Faults
 pub mod Schemas
 pub mod Rows
 pub mod Bytes

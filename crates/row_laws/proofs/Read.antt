@@ -60,7 +60,7 @@ schema-length d cols e = by-count (varintAt d 0) e
         → (1 ≤ length cols) × (length cols ≤ 64)
     by-count CutShort q = absurd (let z : _≡_ {A = ℕ} 0 1 = cc in omega arith)
     by-count IllFormed q = absurd (let z : _≡_ {A = ℕ} 0 1 = cc in omega arith)
-    by-count (Number n next) q =
+    by-count (Number n next short) q =
         let h = need-found _ _ _ _ q in
         let l = columns-length d n next [] cols (h .1) in
         let low = leb-true 1 n (both-left (leb 1 n) (leb n 64) (h .0)) in
@@ -75,7 +75,7 @@ schema-refused d m e = by-count (varintAt d 0) e
     by-count : (r : Varint) → onVarint r (refused 20) (refused 20) (λ n next. need (both (leb 1 n) (leb n 64)) 20 (columnsFrom d n next [])) ≡ refused m → m ≡ 20
     by-count CutShort q = cc
     by-count IllFormed q = cc
-    by-count (Number n next) q = need-refused _ _ _ _ q (λ k p. columns-refused d n next [] k p)
+    by-count (Number n next short) q = need-refused _ _ _ _ q (λ k p. columns-refused d n next [] k p)
 
 -- what the struct that was read says of the schema
 pub record Known (d : List ℕ) (x : SchemaRead) : Type 0 where

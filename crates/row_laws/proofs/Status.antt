@@ -24,7 +24,7 @@ pub on-varint-numbered : {A : Type 0} (r : Varint) (cut ill : ℕ) (f : ℕ → 
     → ((n next : ℕ) → Numbered (f n next)) → Numbered (onVarint r (refused (suc cut)) (refused (suc ill)) f)
 on-varint-numbered varint.CutShort cut ill f h = refused-numbered cut
 on-varint-numbered varint.IllFormed cut ill f h = refused-numbered ill
-on-varint-numbered (varint.Number n next) cut ill f h = h n next
+on-varint-numbered (varint.Number n next short) cut ill f h = h n next
 
 pub on-value-numbered : {A : Type 0} (v : Value) (cut bad : ℕ) (f : Field → ℕ → Outcome A)
     → ((x : Field) (next : ℕ) → Numbered (f x next)) → Numbered (onValue v (refused (suc cut)) (refused (suc bad)) f)

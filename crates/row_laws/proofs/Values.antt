@@ -72,13 +72,13 @@ module _ (s : List ℕ) (test : Field → Bool) (f : Field) (next : ℕ) where
     unfolding nanosOf
     nanos-passes z varint.CutShort e = clash (cc)
     nanos-passes z varint.IllFormed e = clash (cc)
-    nanos-passes z (varint.Number m p) e = from (field.Time z m) p (ok .time z m) (chosen (leb m 999999) _ e)
+    nanos-passes z (varint.Number m p short) e = from (field.Time z m) p (ok .time z m) (chosen (leb m 999999) _ e)
 
     sized-passes : (least : ℕ) (r : Varint) → sizedOf s least r ≡ Read f next → test f ≡ true
     unfolding sizedOf
     sized-passes least varint.CutShort e = clash (cc)
     sized-passes least varint.IllFormed e = clash (cc)
-    sized-passes least (varint.Number n p) e =
+    sized-passes least (varint.Number n p short) e =
         let h = roomed p n _ e in
         from (field.Place p n) (p + n) (ok .place p n (h .0)) (chosen (leb least n) _ (h .1))
 
@@ -105,7 +105,7 @@ module _ (s : List ℕ) (test : Field → Bool) (f : Field) (next : ℕ) where
     stored-passes big at storage.TimeVarint e =
         nanos-passes (countAt big s at) (varintAt s (at + 8)) (roomed at 8 _ e .1)
     stored-passes big at storage.TimeFixed e =
-        nanos-passes (countAt big s at) (varint.Number (wordAt big s (at + 8) 4) (at + 12)) (roomed at 12 _ e .1)
+        nanos-passes (countAt big s at) (varint.Number (wordAt big s (at + 8) 4) (at + 12) true) (roomed at 12 _ e .1)
 
 module _ (s : List ℕ) (f : Field) (next : ℕ) (big : Bool) (at : ℕ) (t : ColumnType) where
   -- a value's place lies within the bytes

@@ -14,6 +14,9 @@ use Rattle.row_spec.specs.declared.ColumnType.{ColumnType}
 use Rattle.row_spec.specs.declared.ColumnType.the-variants as type
 use Rattle.row_spec.specs.declared.Field.{Field}
 use Rattle.row_spec.specs.declared.Field.the-variants as field
+use Rattle.row_spec.specs.declared.Varint.{Varint}
+use Rattle.row_spec.specs.declared.Varint.the-variants as number
+use Rattle.row_spec.specs.declared.NumberShown.{NumberShown}
 use Rattle.row_spec.specs.declared.Shown.{Shown}
 use Rattle.row_spec.specs.declared.TypeShown.{TypeShown}
 use Rattle.row_spec.specs.declared.CountAnswer.{CountAnswer}
@@ -22,6 +25,16 @@ use Rattle.row_spec.specs.declared.ColumnAnswer.{ColumnAnswer}
 use Rattle.row_spec.specs.declared.ColumnAnswer.the-variants as column
 use Rattle.row_spec.specs.declared.FieldAnswer.{FieldAnswer}
 use Rattle.row_spec.specs.declared.FieldAnswer.the-variants as asked
+
+-- a number that was read from the front of bytes, as plain numbers: 0 a number, 1 cut short, 2 ill-formed; then the value, "how many
+-- bytes it used and whether it was shortest"; what a case does not use is 0
+abbrev pub asNumber : ℕ → ℕ → ℕ → ℕ → NumberShown
+asNumber f n k t = record { found = f; value = n; used = k; shortest = t }
+
+unfoldable pub numberShown : Varint → NumberShown
+numberShown (number.Number n next short) = asNumber 0 n next (one short)
+numberShown number.CutShort = asNumber 1 0 0 0
+numberShown number.IllFormed = asNumber 2 0 0 0
 
 abbrev pub countOutcome : CountAnswer → Outcome ℕ
 countOutcome (count.Refused n) = refused n

@@ -4,3 +4,4 @@ pub mod Value
 pub mod Block
 pub mod Answer
 pub mod Examples
+pub mod NumberExamples

@@ -1,10 +1,20 @@
 // The types of schemas, fields and values that row blocks and buckets share. Inner: types and definitions (specs/), no entry point.
 
-// A number in groups of seven bits: the number and the place of the next byte; its bytes run out; or it breaks a rule.
+// A number in groups of seven bits: the number, the place of the next byte and whether the form is the shortest; its bytes run out; or
+// it breaks a rule.
 pub enum Varint {
-    Number(u32, usize),
+    Number(u32, usize, bool),
     CutShort,
     IllFormed,
+}
+
+// A number that was read, as plain numbers: found 0 a number, 1 cut short, 2 ill-formed; the number, the bytes used, and 1 for the
+// shortest form. What a case does not use is 0.
+pub struct NumberShown {
+    pub found: u8,
+    pub value: u32,
+    pub used: u32,
+    pub shortest: u8,
 }
 
 // A column's type, in the order of the ids 0 to 16.

@@ -52,7 +52,7 @@ fn numbered_type(t: ColumnType, hi: u32, r: Varint) -> TypeRead
     match r {
         Varint::CutShort => TypeRead::Fault,
         Varint::IllFormed => TypeRead::Fault,
-        Varint::Number(n, next) => {
+        Varint::Number(n, next, _) => {
             if n <= hi {
                 TypeRead::Type(with_number(t, n), next)
             } else {
@@ -69,7 +69,7 @@ fn decimal_type(s: &[u8], at: usize) -> TypeRead
     match varint(s, at) {
         Varint::CutShort => TypeRead::Fault,
         Varint::IllFormed => TypeRead::Fault,
-        Varint::Number(p, next) => {
+        Varint::Number(p, next, _) => {
             if p < 1 {
                 return TypeRead::Fault;
             }
@@ -205,7 +205,7 @@ pub(crate) fn read_schema(s: &[u8]) -> SchemaRead
     match varint(s, 0) {
         Varint::CutShort => bad_schema(),
         Varint::IllFormed => bad_schema(),
-        Varint::Number(n, next) => {
+        Varint::Number(n, next, _) => {
             if n < 1 {
                 return bad_schema();
             }

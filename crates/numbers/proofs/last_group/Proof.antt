@@ -2,7 +2,7 @@
 use mathlib.Core.Path.{sym}
 use native.Mathlib.Omega.{arith}
 use borrow.Author.Needs.{needs}
-use Rattle.row_laws.proofs.Varints.{prod, last-large, last-some, last-padded, last-zero}
+use Rattle.row_laws.proofs.Varints.{prod, last-large, last-some, last-zero}
 use Rattle.numbers.proofs.last_group.Statement.{statement}
 use Rattle.numbers.proofs.last_group.Tie as tie
 
@@ -21,15 +21,12 @@ cast-t8 c = search needs
 returns-2 : tie.Need-returns-2
 returns-2 c = sym (last-some _ _ _ _ (c .before .if1 .left) (c .if2 .taken))
 
-returns-3 : tie.Need-returns-3
-returns-3 c = sym (last-padded _ _ _ _ (c .before .if2 .left) (c .if3 .taken))
-
 cast-t9 : tie.Need-cast-t9
 cast-t9 c = search needs
 
-returns-4 : tie.Need-returns-4
-returns-4 c = sym (last-zero _ _ _ _ (c .before .before .if1 .left) (c .before .if2 .left) (c .if3 .left))
+returns-3 : tie.Need-returns-3
+returns-3 c = sym (last-zero _ _ _ _ (c .before .if1 .left) (c .if2 .left))
 
 pub last-group-spec : {M : Type 1} → statement M
 last-group-spec =
-    tie.close (tie.spec mul-n add-n returns cast-t8 returns-2 returns-3 cast-t9 returns-4)
+    tie.close (tie.spec mul-n add-n returns cast-t8 returns-2 cast-t9 returns-3)
