@@ -1,6 +1,6 @@
 // Buckets of 01 and of every rule: a line of standard input for each case, in hexadecimal digits, `-` for no byte. Each line of the
-// output is a case's name and its answer, compared with the file stdout, which was made from 01's rules and not by this
-// library.
+// output is a case's name and its answer, compared with the file stdout, which was made from 01's rules as 02 amends them and not by
+// this library.
 use libc::STDIN_FILENO;
 
 // The field of a row and a column, and its part.

@@ -22,9 +22,10 @@ zeros = (refl, refl, refl)
 
 -- the largest number; a fifth byte over 0F is ill-formed
 pub largest : (varintAt (255 ∷ 255 ∷ 255 ∷ 255 ∷ 15 ∷ []) 0 ≡ Number 4294967295 5 true)
-    × (varintAt (255 ∷ 255 ∷ 255 ∷ 255 ∷ 16 ∷ []) 0 ≡ IllFormed)
+    × (varintAt (128 ∷ 128 ∷ 128 ∷ 128 ∷ 16 ∷ []) 0 ≡ IllFormed)
+    × (varintAt (255 ∷ 255 ∷ 255 ∷ 255 ∷ 127 ∷ []) 0 ≡ IllFormed)
 unfolding varintAt groups lastGroup
-largest = (refl, refl)
+largest = (refl, refl, refl)
 
 -- five high bits are ill-formed, also where the bytes end; fewer, and the end, are cut short
 pub high-bits : (varintAt (128 ∷ 128 ∷ 128 ∷ 128 ∷ 128 ∷ []) 0 ≡ IllFormed)
