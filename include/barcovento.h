@@ -98,6 +98,31 @@ uint32_t bv_bitmap_difference(const uint8_t *a, size_t a_len, const uint8_t *b, 
 uint32_t bv_bitmap_symmetric_difference(const uint8_t *a, size_t a_len, const uint8_t *b,
                                         size_t b_len, uint8_t *out, size_t room, size_t *length);
 
+/*
+ * Numbers in groups of seven bits, low group first: the high bit is set on all bytes but the last.
+ * Every count, length, precision, scale and number of entries of schemas, row blocks and buckets is
+ * one, and so are the nanoseconds of a row. Any form of 1 to 5 bytes up to 4,294,967,295 is accepted,
+ * also one that is padded: 80 80 00 is 0 in three bytes.
+ */
+
+/*
+ * The number at the front of the bytes; what follows it is not looked at. This call never refuses: it
+ * returns 0 and sets all four outputs, always.
+ *
+ *   *found            *value, *used, *shortest
+ *   BV_NUMBER         the number, how many bytes it has, 1 if no form is shorter, else 0
+ *   BV_CUT_SHORT      0: under five bytes are there, and all have the high bit
+ *   BV_ILL_FORMED     0: five bytes have the high bit, or the fifth is over 0F
+ */
+enum {
+    BV_NUMBER = 0,
+    BV_CUT_SHORT = 1,
+    BV_ILL_FORMED = 2
+};
+
+uint32_t bv_number_read(const uint8_t *bytes, size_t len, uint8_t *found, uint32_t *value,
+                        uint32_t *used, uint8_t *shortest);
+
 /* Schemas. */
 
 /* The number of columns, 1 to 64. Refusal 20. */
