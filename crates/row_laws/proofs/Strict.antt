@@ -31,8 +31,13 @@ module _ (b w v next : ℕ) where
 
   strict-last : strictLast b w v next ≡ strictly (lastGroup b w v next)
   unfolding strictLast lastGroup
-  strict-last = rw padding (by-test (leb (v + b * w) 4294967295) (either (ltb 0 b) (leb w 1)))
+  strict-last =
+      ap (λ (t : Bool). pick t IllFormed fits) padding
+      ∙ by-test (leb (v + b * w) 4294967295) (either (ltb 0 b) (leb w 1))
     where
+      fits : Varint
+      fits = pick (leb (v + b * w) 4294967295) (Number (v + b * w) next true) IllFormed
+
       by-test : (t u : Bool)
           → pick (pick u false true) IllFormed (pick t (Number (v + b * w) next true) IllFormed)
           ≡ strictly (pick t (Number (v + b * w) next u) IllFormed)
