@@ -1,9 +1,10 @@
-// Row blocks and schemas of 01 and of every rule: a line of standard input for each case, in hexadecimal digits, `-` for no byte.
-// Each line of the output is a case's name and its answer, compared with the file stdout, which was made from 01's rules as 02 amends
-// them and not by this library.
+// Numbers, schemas and row blocks of 01 and of every rule: a line of standard input for each case, in hexadecimal digits, `-` for no
+// byte. Each line of the output is a case's name and its answer, compared with the file stdout, which was made from 01's rules as 02
+// amends them and not by this library.
 use libc::STDIN_FILENO;
 use row_spec::ColumnAnswer;
 use row_spec::CountAnswer;
+use row_spec::Varint;
 
 // The field of a row and a column, and its part.
 fn ask(schema: &[u8], block: &[u8], row: u32, column: u32, whole: &[u8]) {
@@ -29,19 +30,43 @@ fn column(bytes: &[u8], i: u32) {
     vector_text::print(b"\n");
 }
 
-// The question: `schema S, column C`, `schema S, block B`, or that and `row R, column C, whole W`.
-fn question(words: &[u8], schema: &[u8], block: &[u8]) {
+// A number's value, the bytes used, and whether the form is the shortest.
+fn show_number(value: u32, used: usize, shortest: bool) {
+    vector_text::print_after(b": value ", value as u64);
+    vector_text::print_after(b", bytes ", used as u64);
+    if shortest {
+        vector_text::print(b", shortest\n");
+        return;
+    }
+    vector_text::print(b", padded\n");
+}
+
+// The number at the front of the bytes.
+fn number(bytes: &[u8]) {
+    match number_read::read(bytes) {
+        Varint::Number(value, used, shortest) => show_number(value, used, shortest),
+        Varint::CutShort => vector_text::print(b": cut short\n"),
+        Varint::IllFormed => vector_text::print(b": ill-formed\n"),
+    }
+}
+
+// The question: `number N`, `schema S, column C`, `schema S, block B`, or that and `row R, column C, whole W`.
+fn question(words: &[u8], first: &[u8], second: &[u8]) {
+    if vector_text::starts(vector_text::word(words, 0), b'n') {
+        number(first);
+        return;
+    }
     if vector_text::starts(vector_text::word(words, 2), b'c') {
-        column(schema, vector_text::small(vector_text::word(words, 3)));
+        column(first, vector_text::small(vector_text::word(words, 3)));
         return;
     }
     if vector_text::word(words, 5).len() == 0 {
-        count(schema, block);
+        count(first, second);
         return;
     }
     ask(
-        schema,
-        block,
+        first,
+        second,
         vector_text::small(vector_text::word(words, 5)),
         vector_text::small(vector_text::word(words, 7)),
         vector_text::word(words, 9),
@@ -55,11 +80,11 @@ fn show_line(line: &[u8]) {
     }
     let words = vector_text::after(line, b':');
     vector_text::print(vector_text::before(line, b':'));
-    let mut schema = [0u8; 256];
-    let n = vector_text::decode(vector_text::word(words, 1), &mut schema);
-    let mut block = [0u8; 256];
-    let m = vector_text::decode(vector_text::word(words, 3), &mut block);
-    question(words, &schema[..n], &block[..m]);
+    let mut first = [0u8; 256];
+    let n = vector_text::decode(vector_text::word(words, 1), &mut first);
+    let mut second = [0u8; 256];
+    let m = vector_text::decode(vector_text::word(words, 3), &mut second);
+    question(words, &first[..n], &second[..m]);
 }
 
 fn show_lines(text: &[u8]) {

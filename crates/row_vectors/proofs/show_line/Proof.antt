@@ -39,16 +39,16 @@ slice-aggregate-decode-2 c = search needs
 decode-requires-2 : tie.Need-decode-requires-2
 decode-requires-2 c κs = search needs
 
-array-share-prefix-schema : tie.Need-array-share-prefix-schema
-array-share-prefix-schema c = search needs
+array-share-prefix-first : tie.Need-array-share-prefix-first
+array-share-prefix-first c = search needs
 
 slice-aggregate-question : tie.Need-slice-aggregate-question
 slice-aggregate-question c =
     let decode = c .before .before .before .before .before .before .decode in
     sym (length-take-le (decode .result) _ (decode .ensures))
 
-array-share-prefix-block : tie.Need-array-share-prefix-block
-array-share-prefix-block c = search needs
+array-share-prefix-second : tie.Need-array-share-prefix-second
+array-share-prefix-second c = search needs
 
 slice-aggregate-question-2 : tie.Need-slice-aggregate-question-2
 slice-aggregate-question-2 c =
@@ -76,9 +76,9 @@ show-line-spec =
     word-requires-2
     slice-aggregate-decode-2
     decode-requires-2
-    array-share-prefix-schema
+    array-share-prefix-first
     slice-aggregate-question
-    array-share-prefix-block
+    array-share-prefix-second
     slice-aggregate-question-2
     question-requires
     returns-2)
