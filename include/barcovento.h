@@ -100,9 +100,10 @@ uint32_t bv_bitmap_symmetric_difference(const uint8_t *a, size_t a_len, const ui
 
 /*
  * Numbers in groups of seven bits, low group first: the high bit is set on all bytes but the last.
- * Every count, length, precision, scale and number of entries of schemas, row blocks and buckets is
- * one, and so are the nanoseconds of a row. Any form of 1 to 5 bytes up to 4,294,967,295 is accepted,
- * also one that is padded: 80 80 00 is 0 in three bytes.
+ * So are written the column count, lengths, precisions and scales of a schema, the lengths and
+ * nanoseconds of a row, and the column count, number of children, numbers of entries and lengths of a
+ * bucket. (A block's offsets and row count are 4 plain bytes.) Any form of 1 to 5 bytes up to
+ * 4,294,967,295 is accepted, also one that is padded: 80 80 00 is 0 in three bytes.
  */
 
 /*
@@ -112,7 +113,7 @@ uint32_t bv_bitmap_symmetric_difference(const uint8_t *a, size_t a_len, const ui
  *   *found            *value, *used, *shortest
  *   BV_NUMBER         the number, how many bytes it has, 1 if no form is shorter, else 0
  *   BV_CUT_SHORT      0: under five bytes are there, and all have the high bit
- *   BV_ILL_FORMED     0: five bytes have the high bit, or the fifth is over 0F
+ *   BV_ILL_FORMED     0: the first four bytes have the high bit and the fifth is over 0F
  */
 enum {
     BV_NUMBER = 0,

@@ -2,7 +2,7 @@
 -- byte, behind four with the high bit, is over 0F.
 -- Why: group by group; the weight of the fifth group is 128 ^ 4, and the groups before it make less than one of it.
 -- Assumes nothing.
-use mathlib.Core.Path.{_≡_, refl, sym, ap, subst, _∙_}
+use mathlib.Core.Path.{_≡_, refl, sym, ap, _∙_}
 use mathlib.Core.Bool.{Bool, true, false}
 use mathlib.Core.List.{List}
 use Prim.Native.Nat.{ℕ, zero, suc, _+_, _-_, _*_, _^_, _≤_, _<_}
@@ -11,11 +11,10 @@ use native.Mathlib.Omega.{arith}
 use borrow.Author.Tests.{leb-true, leb-false, ltb-true, ltb-false}
 use lib.ListN.{length, getD}
 use lib.Dec.{leb, ltb}
-use Rattle.common.specs.Outcome.{pick}
 use Rattle.common.proofs.Outcomes.{clash}
 use Rattle.row_spec.specs.Varint.{varintAt, groups, lastGroup}
 use Rattle.row_spec.specs.declared.Varint.{Varint}
-use Rattle.row_spec.specs.declared.Varint.the-variants.{Number, CutShort, IllFormed}
+use Rattle.row_spec.specs.declared.Varint.the-variants.{CutShort, IllFormed}
 use Rattle.row_laws.specs.Forms.{Bytes, Cut, Over}
 use Rattle.row_laws.proofs.Varints.{last-fits, last-large, groups-cut, groups-last, groups-more}
 

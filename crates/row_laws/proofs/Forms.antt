@@ -5,9 +5,9 @@ use mathlib.Core.Path.{_≡_, refl, sym, ap, ap₂, subst, _∙_}
 use mathlib.Core.Bool.{Bool, true, false}
 use mathlib.Core.List.{List, [], _∷_}
 use Prim.Native.Nat.{ℕ, zero, suc, _+_, _-_, _*_, _/_, _%_, _^_, _≤_, _<_}
-use native.Mathlib.Nat.{add-mul, mul-assoc, pow-suc, pow-zero, pow-le-pow-right, zero-lt-suc, lt-of-not-le}
+use native.Mathlib.Nat.{add-mul, mul-assoc, pow-suc, pow-le-pow-right, zero-lt-suc, lt-of-not-le}
 use native.Mathlib.Omega.{arith}
-use borrow.Author.Tests.{leb-true, leb-false, ltb-true, ltb-false, le-leb, lt-leb, lt-ltb, le-ltb, eq-eqb, ne-eqb, eqb-true}
+use borrow.Author.Tests.{leb-true, leb-false, ltb-true, ltb-false, le-leb, lt-leb, eq-eqb, ne-eqb, eqb-true}
 use lib.ListN.{length, getD, take, drop, drop-of-length-le}
 use lib.Seq.{drop-cons}
 use lib.Dec.{leb, ltb, eqb}
@@ -15,9 +15,9 @@ use Rattle.common.specs.Outcome.{pick, either}
 use Rattle.common.proofs.Outcomes.{clash}
 use Rattle.row_spec.specs.Varint.{varintAt, groups, lastGroup, padded, leastFrom, groupsOf, shortest}
 use Rattle.row_spec.specs.declared.Varint.{Varint}
-use Rattle.row_spec.specs.declared.Varint.the-variants.{Number, CutShort, IllFormed}
+use Rattle.row_spec.specs.declared.Varint.the-variants.{Number, CutShort}
 use Rattle.row_laws.specs.Forms.{Bytes, Form}
-use Rattle.row_laws.proofs.Varints.{last-fits, last-large, groups-cut, groups-last, groups-more}
+use Rattle.row_laws.proofs.Varints.{last-fits, last-large, groups-last, groups-more}
 
 -- ---- how many groups a number needs
 power-le : {i j : ℕ} → i ≤ j → 128 ^ i ≤ 128 ^ j

@@ -9,7 +9,6 @@ use Rattle.row_spec.specs.Varint.{varintAt, groups, lastGroup, padded, l
 use Rattle.row_spec.specs.Schema.{schema, columnsFrom, columnAt, typeAt, types, numbered, decimal}
 use Rattle.row_spec.specs.Value.{valueAt, storedAt, sizedOf, room}
 use Rattle.row_spec.specs.Block.{block, counted, rows, row, fields, fieldAt}
-use Rattle.row_spec.specs.declared.Field.{Field}
 use Rattle.row_spec.specs.declared.Field.the-variants.{Place}
 use Rattle.row_spec.specs.declared.Varint.the-variants.{Number, CutShort, IllFormed}
 

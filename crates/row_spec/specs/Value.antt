@@ -100,6 +100,7 @@ storedAt big s at storage.Float64 = room s at 8 (Read (double (wordAt big s at 8
 storedAt big s at (storage.Sized least) = sizedOf s least (varintAt s at)
 storedAt big s at storage.Time = room s at 8 (Read (field.Time (countAt big s at) 0) (at + 8))
 storedAt big s at storage.TimeVarint = room s at 8 (nanosOf (countAt big s at) (varintAt s (at + 8)))
+-- four fixed bytes, not groups: the mark is not looked at
 storedAt big s at storage.TimeFixed = room s at 12 (nanosOf (countAt big s at) (Number (wordAt big s (at + 8) 4) (at + 12) true))
 
 -- the value of a type at at

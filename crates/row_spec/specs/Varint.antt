@@ -35,7 +35,7 @@ varintAt s at = groups s 5 at 1 0
 
 -- ---- the forms of a number
 
--- n in k groups: "low group first, high bit set on all but the last byte"
+-- n, below 128 ^ k, in k groups: "low group first, high bit set on all but the last byte"
 unfoldable pub padded : ℕ → ℕ → List ℕ
 padded zero n = []
 padded (suc zero) n = n ∷ []

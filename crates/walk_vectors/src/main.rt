@@ -1,6 +1,6 @@
 // Walks rows field by field through row_walk, with the walker held in a local and lent by `&mut`: a line of standard input for each
 // row, in hexadecimal digits, with the whole numbers wanted. The output has a line for the null bitmap and one for each field, with
-// the place after it, and was worked out from 01 by hand.
+// the place after it, and was worked out by hand from 01 as 02 amends it.
 ghost use mathlib.Core.Path.{_≡_};
 ghost use Rattle.row_spec.specs.Answer.{countOutcome, fieldOutcome};
 ghost use Rattle.row_walk.specs.Walk.{headOf, nextOf, answerOf, placeOf};
