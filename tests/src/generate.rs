@@ -2,6 +2,7 @@
 
 pub mod bitmap;
 pub mod buckets;
+pub mod numbers;
 pub mod rows;
 pub mod schema;
 

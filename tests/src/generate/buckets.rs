@@ -1,8 +1,9 @@
 //! Buckets over random schemas, row counts and encodings, sound and damaged towards each refusal.
 
+use super::numbers::{all_forms, bad_varint, damage_number, Number, Numbers};
 use super::schema::{
-    bad_boolean, bad_counted, bad_nanoseconds, bad_varint, bits_width, columns, damaged_schema,
-    push_counted, push_varint, schema_bytes, value, Value,
+    bad_boolean, bad_counted, bad_nanoseconds, bits_width, columns, damaged_schema, lay_schema,
+    value, Value,
 };
 use super::{damage_bytes, Random};
 use crate::reference::schema::{Column, Type};
@@ -28,20 +29,28 @@ struct ColumnDraft {
     has_nulls: bool,
     /// What each row holds; nothing stands for null.
     cells: Vec<Option<Value>>,
-    constant: Vec<u8>,
-    /// The number of entries as it is written, then each entry.
-    table: Vec<Vec<u8>>,
+    constant: Option<Value>,
+    table: Option<Table>,
     nulls: Vec<u8>,
-    plain: Vec<Vec<u8>>,
+    /// Whether the cells stand in the bucket, as plain values.
+    plain: bool,
     indexes: Vec<u8>,
     index_count: usize,
+}
+
+/// A dictionary before it is laid out.
+struct Table {
+    /// The number of entries as it is written.
+    number: Number,
+    entries: Vec<Value>,
 }
 
 /// A bucket part by part, before damage.
 struct Draft {
     columns: Vec<Column>,
     rows: usize,
-    header: [Vec<u8>; 2],
+    /// The number of columns and the number of children.
+    header: [Number; 2],
     tag_spare: u8,
     has_nulls_spare: u8,
     drafts: Vec<ColumnDraft>,
@@ -49,23 +58,33 @@ struct Draft {
 }
 
 impl Draft {
-    fn bytes(&self) -> Vec<u8> {
-        let mut out = self.header.concat();
+    /// Every number goes to the same bytes.
+    fn bytes(&self, numbers: &mut Numbers) -> Vec<u8> {
+        let mut out = Vec::new();
+        for number in &self.header {
+            numbers.push_number(number, &mut out);
+        }
         let tags: Vec<usize> = self.drafts.iter().map(|draft| usize::from(draft.tag)).collect();
         push_spare(&pack_low_first(&tags, 2), self.tag_spare, &mut out);
         let marks: Vec<usize> = self.drafts.iter().map(|d| usize::from(d.has_nulls)).collect();
         push_spare(&pack_low_first(&marks, 1), self.has_nulls_spare, &mut out);
-        for draft in &self.drafts {
-            out.extend_from_slice(&draft.constant);
+        let drafts = || self.columns.iter().map(|column| column.kind).zip(&self.drafts);
+        for (kind, draft) in drafts() {
+            push_values(kind, draft.constant.iter(), numbers, &mut out);
         }
-        for draft in &self.drafts {
-            out.extend(draft.table.concat());
+        for (kind, draft) in drafts() {
+            if let Some(table) = &draft.table {
+                numbers.push_number(&table.number, &mut out);
+                push_values(kind, table.entries.iter(), numbers, &mut out);
+            }
         }
         for draft in &self.drafts {
             out.extend_from_slice(&draft.nulls);
         }
-        for draft in &self.drafts {
-            out.extend(draft.plain.concat());
+        for (kind, draft) in drafts() {
+            if draft.plain {
+                push_values(kind, draft.cells.iter().flatten(), numbers, &mut out);
+            }
             out.extend_from_slice(&draft.indexes);
         }
         out.extend_from_slice(&self.tail);
@@ -92,25 +111,26 @@ fn pack_low_first(values: &[usize], width: usize) -> Vec<u8> {
     out
 }
 
-/// Appends a value in the layout of source 000: big endian.
-fn push_value(kind: Type, value: &Value, out: &mut Vec<u8>) {
-    match value {
-        Value::Bits(bits) => out.extend_from_slice(&bits.to_be_bytes()[8 - bits_width(kind)..]),
-        Value::Time { count, nanos } => {
-            out.extend(count.to_be_bytes());
-            if kind.size() > 6 {
-                out.extend(nanos.to_be_bytes());
+/// Appends values in the layout of source 000: big endian.
+fn push_values<'a>(
+    kind: Type,
+    values: impl Iterator<Item = &'a Value>,
+    numbers: &mut Numbers,
+    out: &mut Vec<u8>,
+) {
+    for value in values {
+        match value {
+            Value::Bits(bits) => out.extend_from_slice(&bits.to_be_bytes()[8 - bits_width(kind)..]),
+            Value::Time { count, nanos } => {
+                out.extend(count.to_be_bytes());
+                if kind.size() > 6 {
+                    out.extend(nanos.to_be_bytes());
+                }
             }
+            Value::Counted(bytes) => numbers.push_counted(bytes, out),
+            Value::Raw(bytes) => out.extend_from_slice(bytes),
         }
-        Value::Counted(bytes) => push_counted(bytes, out),
-        Value::Raw(bytes) => out.extend_from_slice(bytes),
     }
-}
-
-fn value_bytes(kind: Type, value: &Value) -> Vec<u8> {
-    let mut out = Vec::new();
-    push_value(kind, value, &mut out);
-    out
 }
 
 fn row_count(random: &mut Random) -> usize {
@@ -142,8 +162,7 @@ fn draft_of(random: &mut Random, columns: Vec<Column>, rows: usize, tags: &[u8])
         .zip(tags.iter().cycle())
         .map(|(column, &tag)| any_column(random, column, rows, tag))
         .collect();
-    let mut header = [Vec::new(), vec![0]];
-    push_varint(columns.len() as u32, &mut header[0]);
+    let header = [Number::Value(columns.len() as u32), Number::Value(0)];
     Draft { columns, rows, header, tag_spare: 0, has_nulls_spare: 0, drafts, tail: Vec::new() }
 }
 
@@ -153,10 +172,10 @@ fn any_column(random: &mut Random, column: &Column, rows: usize, tag: u8) -> Col
         tag,
         has_nulls: random.once_in(2),
         cells: vec![None; rows],
-        constant: Vec::new(),
-        table: Vec::new(),
+        constant: None,
+        table: None,
         nulls: Vec::new(),
-        plain: Vec::new(),
+        plain: false,
         indexes: Vec::new(),
         index_count: 0,
     };
@@ -175,8 +194,8 @@ fn any_column(random: &mut Random, column: &Column, rows: usize, tag: u8) -> Col
         PLAIN => fill_plain(random, column.kind, &filled, &mut draft),
         CONST => {
             let value = value(random, column.kind);
-            draft.constant = value_bytes(column.kind, &value);
             filled.iter().for_each(|&row| draft.cells[row] = Some(value.clone()));
+            draft.constant = Some(value);
         }
         _ => fill_dictionary(random, column.kind, &filled, &mut draft),
     }
@@ -185,10 +204,9 @@ fn any_column(random: &mut Random, column: &Column, rows: usize, tag: u8) -> Col
 
 fn fill_plain(random: &mut Random, kind: Type, filled: &[usize], draft: &mut ColumnDraft) {
     for &row in filled {
-        let value = value(random, kind);
-        draft.plain.push(value_bytes(kind, &value));
-        draft.cells[row] = Some(value);
+        draft.cells[row] = Some(value(random, kind));
     }
+    draft.plain = true;
 }
 
 fn index_width(entries: usize) -> usize {
@@ -202,10 +220,6 @@ fn fill_dictionary(random: &mut Random, kind: Type, filled: &[usize], draft: &mu
         _ => random.between(2, 5),
     };
     let entries: Vec<Value> = (0..count).map(|_| value(random, kind)).collect();
-    let mut number = Vec::new();
-    push_varint(count as u32, &mut number);
-    draft.table.push(number);
-    draft.table.extend(entries.iter().map(|entry| value_bytes(kind, entry)));
     let mut indexes = Vec::new();
     for &row in filled {
         let index = random.below(count);
@@ -214,37 +228,54 @@ fn fill_dictionary(random: &mut Random, kind: Type, filled: &[usize], draft: &mu
     }
     draft.indexes = pack_low_first(&indexes, index_width(count));
     draft.index_count = filled.len();
+    draft.table = Some(Table { number: Number::Value(count as u32), entries });
 }
 
 /// A bucket of these columns and rows; the tags go round over the columns.
-pub fn filled(random: &mut Random, columns: &[Column], rows: usize, tags: &[u8]) -> Vec<u8> {
-    draft_of(random, columns.to_vec(), rows, tags).bytes()
+pub fn filled(
+    random: &mut Random,
+    columns: &[Column],
+    rows: usize,
+    tags: &[u8],
+    numbers: &mut Numbers,
+) -> Vec<u8> {
+    draft_of(random, columns.to_vec(), rows, tags).bytes(numbers)
+}
+
+/// The schema and the bucket, the numbers of each as it wants them.
+fn lay(draft: &Draft, schema: &mut Numbers, bucket: &mut Numbers) -> Case {
+    Case {
+        schema: lay_schema(&draft.columns, schema),
+        rows: draft.rows as u32,
+        bucket: draft.bytes(bucket),
+    }
 }
 
 /// A sound bucket and what it holds.
 pub fn sound_with_content(random: &mut Random) -> (Case, Content) {
     let draft = any_draft(random);
-    let case = Case {
-        schema: schema_bytes(&draft.columns),
-        rows: draft.rows as u32,
-        bucket: draft.bytes(),
-    };
+    let [mut schema, mut bucket] = [(); 2].map(|_| Numbers::any(random));
+    let case = lay(&draft, &mut schema, &mut bucket);
     let cells = draft.drafts.into_iter().map(|column| column.cells);
     (case, draft.columns.into_iter().zip(cells).collect())
 }
 
-pub fn sound(random: &mut Random) -> Case {
-    sound_with_content(random).0
+/// The same sound bucket twice: every number shortest; some or all padded.
+pub fn twins(random: &mut Random) -> [Case; 2] {
+    let draft = any_draft(random);
+    let shortest = lay(&draft, &mut Numbers::shortest(), &mut Numbers::shortest());
+    let [mut schema, mut bucket] = [(); 2].map(|_| Numbers::padded(random));
+    [shortest, lay(&draft, &mut schema, &mut bucket)]
 }
 
 /// A bucket damaged once or twice, mostly towards a certain refusal.
 pub fn damaged(random: &mut Random) -> Case {
     let mut draft = any_draft(random);
-    let mut schema = schema_bytes(&draft.columns);
+    let mut schema = lay_schema(&draft.columns, &mut Numbers::any(random));
     let mut rows = draft.rows as u32;
     let mut after = Vec::new();
     for _ in 0..if random.once_in(3) { 2 } else { 1 } {
-        match random.below(16) {
+        match random.below(18) {
             0 => schema = damaged_schema(random, &draft.columns),
             1 => rows = random.pick(&[65_537, 100_000, 1 << 31, u32::MAX]),
             2 => rows = rows.wrapping_add(random.pick(&[1, 7, 8, u32::MAX])),
@@ -258,11 +289,13 @@ pub fn damaged(random: &mut Random) -> Case {
                 let more = random.between(1, 3);
                 draft.tail = random.bytes(more);
             }
-            14 if random.once_in(1000) => after.push(After::TooLong),
+            14..=15 => after.push(After::Number),
+            16 if random.once_in(1000) => after.push(After::TooLong),
             _ => after.push(After::Bytes),
         }
     }
-    let mut bucket = draft.bytes();
+    let mut numbers = Numbers::any(random);
+    let mut bucket = draft.bytes(&mut numbers);
     for damage in after {
         match damage {
             After::Cut => {
@@ -271,7 +304,10 @@ pub fn damaged(random: &mut Random) -> Case {
             }
             After::TooLong => bucket = vec![0; 16_777_217],
             After::Bytes => damage_bytes(random, &mut bucket),
+            After::Number => damage_number(random, &mut bucket, &numbers.spots),
         }
+        // The numbers stand there no longer.
+        numbers.spots.clear();
     }
     Case { schema, rows, bucket }
 }
@@ -281,18 +317,16 @@ enum After {
     Cut,
     TooLong,
     Bytes,
+    Number,
 }
 
 fn break_header(random: &mut Random, draft: &mut Draft) {
     let count = draft.columns.len() as u32;
     match random.below(4) {
-        0 => draft.header[0] = bad_varint(random, count),
-        1 => {
-            draft.header[0].clear();
-            push_varint(count ^ 1 << random.below(10), &mut draft.header[0]);
-        }
-        2 => draft.header[1] = bad_varint(random, 0),
-        _ => draft.header[1] = vec![random.between(1, 127) as u8],
+        0 => draft.header[0] = Number::Raw(bad_varint(random, count)),
+        1 => draft.header[0] = Number::Value(count ^ 1 << random.below(10)),
+        2 => draft.header[1] = Number::Raw(bad_varint(random, 0)),
+        _ => draft.header[1] = Number::Value(random.between(1, 300) as u32),
     }
 }
 
@@ -303,17 +337,18 @@ fn break_value(random: &mut Random, draft: &mut Draft) {
         let at = (start + i) % draft.columns.len();
         let Some(bad) = bad_value(random, draft.columns[at].kind) else { continue };
         let column = &mut draft.drafts[at];
-        match column.tag {
-            CONST => column.constant = bad,
-            DICT => {
-                let entry = random.between(1, column.table.len() - 1);
-                column.table[entry] = bad;
-            }
-            PLAIN if !column.plain.is_empty() => {
-                let row = random.below(column.plain.len());
-                column.plain[row] = bad;
-            }
+        let values: Vec<&mut Value> = match (column.tag, &mut column.table) {
+            (CONST, _) => column.constant.iter_mut().collect(),
+            (DICT, Some(table)) => table.entries.iter_mut().collect(),
+            (PLAIN, _) => column.cells.iter_mut().flatten().collect(),
             _ => continue,
+        };
+        let count = values.len();
+        if count == 0 {
+            continue;
+        }
+        if let Some(value) = values.into_iter().nth(random.below(count)) {
+            *value = Value::Raw(bad);
         }
         return;
     }
@@ -346,16 +381,13 @@ fn break_table(random: &mut Random, draft: &mut Draft) {
     for i in 0..draft.columns.len() {
         let at = (start + i) % draft.columns.len();
         let column = &mut draft.drafts[at];
-        if column.tag != DICT {
-            continue;
-        }
-        let entries = column.table.len() - 1;
+        let Some(table) = &mut column.table else { continue };
+        let entries = table.entries.len();
         match random.below(4) {
-            0 => column.table[0] = bad_varint(random, entries as u32),
+            0 => table.number = Number::Raw(bad_varint(random, entries as u32)),
             1 => {
                 let number = random.pick(&[0, 1, 256, 257, 300, 65_536, u32::MAX]);
-                column.table[0].clear();
-                push_varint(number, &mut column.table[0]);
+                table.number = Number::Value(number);
             }
             _ => break_index(random, column, entries),
         }
@@ -387,7 +419,7 @@ fn set_spare_bits(random: &mut Random, draft: &mut Draft) {
     let rows = draft.rows;
     let at = random.below(count);
     let column = &mut draft.drafts[at];
-    let entries = column.table.len().saturating_sub(1);
+    let entries = column.table.as_ref().map_or(0, |table| table.entries.len());
     match random.below(4) {
         0 => draft.tag_spare = spare_bit(random, 2 * count),
         1 => draft.has_nulls_spare = spare_bit(random, count),
@@ -431,7 +463,7 @@ fn add_null(random: &mut Random, draft: &mut Draft) {
     column.nulls[row / 8] |= 1 << (row % 8);
 }
 
-/// Buckets at the largest sizes, and one past them.
+/// Buckets at the largest sizes, and one past them; then each kind of number in each form.
 pub fn edge(number: u64) -> Option<Case> {
     let bytes_column = vec![1, 13, 0];
     let case = |schema, rows, bucket| Some(Case { schema, rows, bucket });
@@ -440,13 +472,46 @@ pub fn edge(number: u64) -> Option<Case> {
         1 => case(vec![1, 1, 0], 65_537, [vec![1, 0, 0, 0], vec![7; 65_537]].concat()),
         2 => case(bytes_column, 1, one_value(16_777_216)),
         3 => case(bytes_column, 1, one_value(16_777_217)),
-        _ => None,
+        _ => number_edges().into_iter().nth(number as usize - 4),
     }
+}
+
+/// Buckets of one row with one number in each of its forms.
+fn number_edges() -> Vec<Case> {
+    let tiny: &[u8] = &[1, 1, 0];
+    let text: &[u8] = &[1, 10, 0];
+    let decimal: &[u8] = &[1, 14, 0, 19, 0];
+    let buckets: [(&[u8], &[u8], u32, &[u8]); 17] = [
+        (tiny, &[], 1, &[0, 0, 0, 7]),
+        (tiny, &[], 2, &[0, 0, 0, 7]),
+        (tiny, &[1], 0, &[0, 0, 7]),
+        (tiny, &[1], 1, &[0, 0, 7]),
+        (tiny, &[1, 0, DICT, 0], 2, &[7, 8, 1]),
+        (tiny, &[1, 0, DICT, 0], 1, &[7, 1]),
+        (tiny, &[1, 0, DICT, 0], 0, &[1]),
+        (tiny, &[1, 0, DICT, 0], 256, &[7; 257]),
+        (text, &[1, 0, CONST, 0], 0, &[]),
+        (text, &[1, 0, CONST, 0], 1, b"A"),
+        (text, &[1, 0, CONST, 0], 2, b"A"),
+        (text, &[1, 0, DICT, 0, 2, 0], 1, b"A\0"),
+        (text, &[1, 0, PLAIN, 0], 0, &[]),
+        (text, &[1, 0, PLAIN, 0], 1, b"A"),
+        (text, &[1, 0, PLAIN, 0], 2, b"A"),
+        (decimal, &[1, 0, PLAIN, 0], 0, &[]),
+        (decimal, &[1, 0, PLAIN, 0], 1, &[7]),
+    ];
+    let mut out = Vec::new();
+    for (schema, before, number, behind) in buckets {
+        for bucket in all_forms(before, number, behind) {
+            out.push(Case { schema: schema.to_vec(), rows: 1, bucket });
+        }
+    }
+    out
 }
 
 /// A bucket of this many bytes with one long value.
 fn one_value(length: usize) -> Vec<u8> {
     let mut out = vec![1, 0, 0, 0];
-    push_counted(&vec![0xAB; length - 8], &mut out);
+    Numbers::shortest().push_counted(&vec![0xAB; length - 8], &mut out);
     out
 }

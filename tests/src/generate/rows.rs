@@ -1,11 +1,14 @@
 //! Row blocks over random schemas, sound and damaged towards each refusal.
 
+use super::numbers::{all_forms, bad_varint, damage_number, push_any_form, Numbers};
 use super::schema::{
-    bad_boolean, bad_counted, bad_nanoseconds, bad_varint, bits_width, columns, damaged_schema,
-    push_counted, push_varint, schema_bytes, value, Value,
+    bad_boolean, bad_counted, bad_nanoseconds, bits_width, columns, damaged_schema, lay_schema,
+    value, Value,
 };
 use super::{damage_bytes, Random};
 use crate::reference::schema::{Column, Type};
+use std::mem::take;
+use std::ops::Range;
 
 /// A schema and a block.
 pub struct Case {
@@ -16,17 +19,24 @@ pub struct Case {
 /// One row before it is laid out: nothing stands for null.
 pub type Row = Vec<Option<Value>>;
 
+/// A row as it is written.
+struct Laid {
+    bytes: Vec<u8>,
+    /// Where its numbers stand.
+    spots: Vec<Range<usize>>,
+}
+
 /// A block part by part, before damage.
 struct Draft {
     columns: Vec<Column>,
-    rows: Vec<Vec<u8>>,
+    rows: Vec<Laid>,
     gap: Vec<u8>,
     offsets: Vec<u32>,
     count: u32,
 }
 
 impl Draft {
-    fn new(columns: Vec<Column>, rows: Vec<Vec<u8>>) -> Draft {
+    fn new(columns: Vec<Column>, rows: Vec<Laid>) -> Draft {
         let mut draft =
             Draft { columns, gap: Vec::new(), offsets: Vec::new(), count: rows.len() as u32, rows };
         draft.place_rows();
@@ -39,12 +49,15 @@ impl Draft {
         self.offsets.clear();
         for row in &self.rows {
             self.offsets.push(end);
-            end += row.len() as u32;
+            end += row.bytes.len() as u32;
         }
     }
 
     fn bytes(&self) -> Vec<u8> {
-        let mut out = self.rows.concat();
+        let mut out = Vec::new();
+        for row in &self.rows {
+            out.extend_from_slice(&row.bytes);
+        }
         out.extend_from_slice(&self.gap);
         for offset in &self.offsets {
             out.extend(offset.to_le_bytes());
@@ -75,28 +88,28 @@ fn any_row(random: &mut Random, columns: &[Column]) -> Row {
         .collect()
 }
 
-fn row_bytes(columns: &[Column], row: &Row) -> Vec<u8> {
-    let mut out = vec![0; columns.len().div_ceil(8)];
+fn lay_row(columns: &[Column], row: &Row, numbers: &mut Numbers) -> Laid {
+    let mut bytes = vec![0; columns.len().div_ceil(8)];
     for (i, field) in row.iter().enumerate() {
         match field {
-            None => out[i / 8] |= 1 << (i % 8),
-            Some(value) => push_field(columns[i].kind, value, &mut out),
+            None => bytes[i / 8] |= 1 << (i % 8),
+            Some(value) => push_field(columns[i].kind, value, numbers, &mut bytes),
         }
     }
-    out
+    Laid { bytes, spots: take(&mut numbers.spots) }
 }
 
 /// Appends a field in the layout of source 001: little endian.
-fn push_field(kind: Type, value: &Value, out: &mut Vec<u8>) {
+fn push_field(kind: Type, value: &Value, numbers: &mut Numbers, out: &mut Vec<u8>) {
     match value {
         Value::Bits(bits) => out.extend_from_slice(&bits.to_le_bytes()[..bits_width(kind)]),
         Value::Time { count, nanos } => {
             out.extend(count.to_le_bytes());
             if kind.size() > 3 {
-                push_varint(*nanos, out);
+                numbers.push(*nanos, out);
             }
         }
-        Value::Counted(bytes) => push_counted(bytes, out),
+        Value::Counted(bytes) => numbers.push_counted(bytes, out),
         Value::Raw(bytes) => out.extend_from_slice(bytes),
     }
 }
@@ -107,20 +120,30 @@ fn any_rows(random: &mut Random) -> (Vec<Column>, Vec<Row>) {
     (columns, rows)
 }
 
-fn any_draft(random: &mut Random) -> Draft {
-    let (columns, rows) = any_rows(random);
-    let laid = rows.iter().map(|row| row_bytes(&columns, row)).collect();
-    Draft::new(columns, laid)
+fn lay_rows(columns: &[Column], rows: &[Row], numbers: &mut Numbers) -> Draft {
+    let laid = rows.iter().map(|row| lay_row(columns, row, numbers)).collect();
+    Draft::new(columns.to_vec(), laid)
+}
+
+/// The schema and the rows, the numbers of each as it wants them.
+fn lay(columns: &[Column], rows: &[Row], schema: &mut Numbers, block: &mut Numbers) -> Case {
+    Case { schema: lay_schema(columns, schema), block: lay_rows(columns, rows, block).bytes() }
 }
 
 /// A block of these columns, as many rows as the bytes and the rows allow.
-pub fn filled(random: &mut Random, columns: &[Column], bytes: usize, rows: usize) -> Vec<u8> {
+pub fn filled(
+    random: &mut Random,
+    columns: &[Column],
+    bytes: usize,
+    rows: usize,
+    numbers: &mut Numbers,
+) -> Vec<u8> {
     let mut length = 4;
     let mut laid = Vec::new();
     while laid.len() < rows {
         let row = any_row(random, columns);
-        let row = row_bytes(columns, &row);
-        length += row.len() + 4;
+        let row = lay_row(columns, &row, numbers);
+        length += row.bytes.len() + 4;
         if length > bytes {
             break;
         }
@@ -132,30 +155,34 @@ pub fn filled(random: &mut Random, columns: &[Column], bytes: usize, rows: usize
 /// A sound block and what it holds.
 pub fn sound_with_content(random: &mut Random) -> (Case, Vec<Column>, Vec<Row>) {
     let (columns, rows) = any_rows(random);
-    let laid = rows.iter().map(|row| row_bytes(&columns, row)).collect();
-    let draft = Draft::new(columns, laid);
-    let case = Case { schema: schema_bytes(&draft.columns), block: draft.bytes() };
-    (case, draft.columns, rows)
+    let [mut schema, mut block] = [(); 2].map(|_| Numbers::any(random));
+    (lay(&columns, &rows, &mut schema, &mut block), columns, rows)
 }
 
-pub fn sound(random: &mut Random) -> Case {
-    sound_with_content(random).0
+/// The same sound rows twice: every number shortest; some or all padded.
+pub fn twins(random: &mut Random) -> [Case; 2] {
+    let (columns, rows) = any_rows(random);
+    let shortest = lay(&columns, &rows, &mut Numbers::shortest(), &mut Numbers::shortest());
+    let [mut schema, mut block] = [(); 2].map(|_| Numbers::padded(random));
+    [shortest, lay(&columns, &rows, &mut schema, &mut block)]
 }
 
 /// A block damaged once or twice, mostly towards a certain refusal.
 pub fn damaged(random: &mut Random) -> Case {
-    let mut draft = any_draft(random);
-    let mut schema = schema_bytes(&draft.columns);
+    let (columns, rows) = any_rows(random);
+    let mut draft = lay_rows(&columns, &rows, &mut Numbers::any(random));
+    let mut schema = lay_schema(&columns, &mut Numbers::any(random));
     let mut after = Vec::new();
     for _ in 0..if random.once_in(3) { 2 } else { 1 } {
-        match random.below(12) {
+        match random.below(14) {
             0 => schema = damaged_schema(random, &draft.columns),
             1 => after.push(After::Short),
             2 => break_count(random, &mut draft),
             3..=4 => break_offsets(random, &mut draft),
             5 => break_end(random, &mut draft),
             6..=9 => break_row(random, &mut draft),
-            10 if random.once_in(500) => after.push(After::TooLong),
+            10..=11 => break_number(random, &mut draft),
+            12 if random.once_in(500) => after.push(After::TooLong),
             _ => after.push(After::Bytes),
         }
     }
@@ -204,7 +231,8 @@ fn break_end(random: &mut Random, draft: &mut Draft) {
         let more = random.between(1, 5);
         draft.gap = random.bytes(more);
     } else if let Some(last) = draft.rows.last_mut() {
-        last.truncate(random.below(last.len().max(1)));
+        last.bytes.truncate(random.below(last.bytes.len().max(1)));
+        last.spots.clear();
     }
 }
 
@@ -227,15 +255,27 @@ fn break_row(random: &mut Random, draft: &mut Draft) {
             }
         }
     }
-    let mut bytes = row_bytes(&draft.columns, &row);
+    let mut laid = lay_row(&draft.columns, &row, &mut Numbers::any(random));
     let used = draft.columns.len();
     if spare && !used.is_multiple_of(8) {
-        bytes[used / 8] |= 1 << random.between(used % 8, 7);
+        laid.bytes[used / 8] |= 1 << random.between(used % 8, 7);
     }
-    draft.rows[at] = bytes;
+    draft.rows[at] = laid;
     if !random.once_in(5) {
         draft.place_rows();
     }
+}
+
+/// Damage of one number, half of the time in the last row; its offsets are set anew.
+fn break_number(random: &mut Random, draft: &mut Draft) {
+    let count = draft.rows.len();
+    if count == 0 {
+        return;
+    }
+    let at = if random.once_in(2) { count - 1 } else { random.below(count) };
+    let row = &mut draft.rows[at];
+    damage_number(random, &mut row.bytes, &take(&mut row.spots));
+    draft.place_rows();
 }
 
 /// The bytes of a field that is bad in a row, if its type has such.
@@ -245,7 +285,8 @@ fn bad_field(random: &mut Random, kind: Type) -> Option<Vec<u8>> {
         Type::Timestamp { precision: 4.. } => {
             let mut out = random.bytes(8);
             if random.once_in(2) {
-                push_varint(bad_nanoseconds(random), &mut out);
+                let nanos = bad_nanoseconds(random);
+                push_any_form(random, nanos, &mut out);
             } else {
                 out.extend(bad_varint(random, 999));
             }
@@ -263,7 +304,7 @@ fn bad_field(random: &mut Random, kind: Type) -> Option<Vec<u8>> {
     }
 }
 
-/// Blocks at the largest sizes, and one past them.
+/// Blocks at the largest sizes, and one past them; then each kind of number in each form.
 pub fn edge(number: u64) -> Option<Case> {
     let tiny = vec![1, 1, 1];
     let bytes_column = vec![1, 13, 0];
@@ -273,17 +314,56 @@ pub fn edge(number: u64) -> Option<Case> {
         1 => case(tiny, all_null_rows(65_537)),
         2 => case(bytes_column, one_field(16_777_216)),
         3 => case(bytes_column, one_field(16_777_217)),
-        _ => None,
+        _ => number_edges().into_iter().nth(number as usize - 4),
     }
 }
 
+/// Schemas and one-row blocks with one number, in each of its forms.
+fn number_edges() -> Vec<Case> {
+    let no_rows = vec![0; 4];
+    let schemas: [(&[u8], u32, &[u8]); 8] = [
+        (&[], 1, &[10, 0]),
+        (&[], 0, &[]),
+        (&[1, 9, 0], 0, &[]),
+        (&[1, 12, 1], 300, &[]),
+        (&[1, 14, 0], 19, &[19]),
+        (&[1, 14, 0, 5], 5, &[]),
+        (&[1, 14, 0, 5], 6, &[]),
+        (&[1, 16, 0], 9, &[]),
+    ];
+    let rows: [(&[u8], &[u8], u32, &[u8]); 8] = [
+        (&[1, 10, 0], &[0], 0, &[]),
+        (&[1, 10, 0], &[0], 1, b"A"),
+        (&[1, 10, 0], &[0], 2, b"A"),
+        (&[1, 14, 0, 19, 0], &[0], 0, &[]),
+        (&[1, 14, 0, 19, 0], &[0], 1, &[7]),
+        (&[1, 16, 0, 4], &[0, 1, 2, 3, 4, 5, 6, 7, 8], 0, &[]),
+        (&[1, 16, 0, 4], &[0, 1, 2, 3, 4, 5, 6, 7, 8], 999_999, &[]),
+        (&[1, 16, 0, 4], &[0, 1, 2, 3, 4, 5, 6, 7, 8], 1_000_000, &[]),
+    ];
+    let mut out = Vec::new();
+    for (before, number, behind) in schemas {
+        let schemas = all_forms(before, number, behind);
+        out.extend(schemas.into_iter().map(|schema| Case { schema, block: no_rows.clone() }));
+    }
+    for (schema, before, number, behind) in rows {
+        for bytes in all_forms(before, number, behind) {
+            let row = Laid { bytes, spots: Vec::new() };
+            let block = Draft::new(Vec::new(), vec![row]).bytes();
+            out.push(Case { schema: schema.to_vec(), block });
+        }
+    }
+    out
+}
+
 fn all_null_rows(count: usize) -> Vec<u8> {
-    Draft::new(Vec::new(), vec![vec![1]; count]).bytes()
+    let row = || Laid { bytes: vec![1], spots: Vec::new() };
+    Draft::new(Vec::new(), (0..count).map(|_| row()).collect()).bytes()
 }
 
 /// A block of this many bytes with one long field.
 fn one_field(length: usize) -> Vec<u8> {
-    let mut row = vec![0];
-    push_counted(&vec![0xAB; length - 13], &mut row);
-    Draft::new(Vec::new(), vec![row]).bytes()
+    let value = Value::Counted(vec![0xAB; length - 13]);
+    let column = Column { kind: Type::Bytes, nullable: false };
+    lay_rows(&[column], &[vec![Some(value)]], &mut Numbers::shortest()).bytes()
 }

@@ -1,37 +1,8 @@
-//! Schemas, values and numbers, sound and damaged, for row blocks and buckets.
+//! Schemas and values, sound and damaged, for row blocks and buckets.
 
+use super::numbers::{bad_varint, damage_number, push_any_form, Numbers};
 use super::{damage_bytes, Random};
 use crate::reference::schema::{Column, Type};
-
-/// Appends a number in seven-bit groups.
-pub fn push_varint(mut value: u32, out: &mut Vec<u8>) {
-    while value > 0x7F {
-        out.push(value as u8 | 0x80);
-        value >>= 7;
-    }
-    out.push(value as u8);
-}
-
-/// A number that is padded, too long, too large or cut short.
-pub fn bad_varint(random: &mut Random, value: u32) -> Vec<u8> {
-    let mut out = Vec::new();
-    push_varint(value, &mut out);
-    match random.below(5) {
-        0 | 1 => {
-            *out.last_mut().unwrap() |= 0x80;
-            let padding = random.below(5 - out.len().min(4));
-            out.extend(vec![0x80; padding]);
-            out.push(0);
-        }
-        2 => {
-            let fifth = random.pick(&[0x10, 0x1F, 0x70, 0x7F, 0x80, 0xFF]);
-            out = vec![random.pick(&[0x80, 0x83, 0xFF]), 0x80, 0x80, 0x80, fifth];
-        }
-        3 => out = vec![0x80, 0x80, 0x80, 0x80, 0x80, 0x01],
-        _ => *out.last_mut().unwrap() |= 0x80,
-    }
-    out
-}
 
 fn declared_length(random: &mut Random) -> u32 {
     match random.below(4) {
@@ -80,57 +51,78 @@ pub fn columns(random: &mut Random) -> Vec<Column> {
     (0..count).map(|_| Column { kind: any_type(random), nullable: random.once_in(2) }).collect()
 }
 
+/// The schema, every number shortest.
 pub fn schema_bytes(columns: &[Column]) -> Vec<u8> {
+    lay_schema(columns, &mut Numbers::shortest())
+}
+
+pub fn lay_schema(columns: &[Column], numbers: &mut Numbers) -> Vec<u8> {
     let mut out = Vec::new();
-    push_varint(columns.len() as u32, &mut out);
+    numbers.push(columns.len() as u32, &mut out);
     for column in columns {
-        out.extend(column_bytes(column));
+        push_column(column, numbers, &mut out);
     }
     out
 }
 
-fn column_bytes(column: &Column) -> Vec<u8> {
-    let mut out = vec![column.kind.id(), u8::from(column.nullable)];
+fn push_column(column: &Column, numbers: &mut Numbers, out: &mut Vec<u8>) {
+    out.extend([column.kind.id(), u8::from(column.nullable)]);
     if matches!(column.kind.id(), 8 | 9 | 11 | 12 | 14 | 15 | 16) {
-        push_varint(column.kind.size(), &mut out);
+        numbers.push(column.kind.size(), out);
     }
     if let Type::Decimal { scale, .. } = column.kind {
-        push_varint(scale, &mut out);
+        numbers.push(scale, out);
     }
+}
+
+fn column_bytes(column: &Column, numbers: &mut Numbers) -> Vec<u8> {
+    let mut out = Vec::new();
+    push_column(column, numbers, &mut out);
     out
 }
 
 pub fn damaged_schema(random: &mut Random, columns: &[Column]) -> Vec<u8> {
-    let mut parts: Vec<Vec<u8>> = columns.iter().map(column_bytes).collect();
+    let mut numbers = Numbers::any(random);
+    if random.once_in(3) {
+        return damaged_as_a_whole(random, columns, &mut numbers);
+    }
+    let mut parts: Vec<Vec<u8>> =
+        columns.iter().map(|column| column_bytes(column, &mut numbers)).collect();
     let mut count = Vec::new();
-    push_varint(columns.len() as u32, &mut count);
+    numbers.push(columns.len() as u32, &mut count);
     let at = random.below(parts.len());
-    match random.below(10) {
+    match random.below(9) {
         0 => count = bad_varint(random, columns.len() as u32),
         1 => {
             count.clear();
-            push_varint(random.pick(&[0, 65, 128, u32::MAX]), &mut count);
+            numbers.push(random.pick(&[0, 65, 128, u32::MAX]), &mut count);
         }
-        2 => return random.pick(&[&[0][..], &[]]).to_vec(),
+        2 => return random.pick(&[&[0][..], &[], &[0x80, 0]]).to_vec(),
         3 => {
             parts = vec![parts[at].clone(); 65];
-            count = vec![65];
+            count.clear();
+            numbers.push(65, &mut count);
         }
         4 => parts[at][0] = random.pick(&[17, 18, 19, 128, 255]),
         5 => parts[at][1] = random.pick(&[2, 3, 128, 255]),
         6 => parts[at] = bad_parameters(random),
         7 => parts.push(random.bytes(1)),
-        8 => {
-            parts[at].pop();
-        }
         _ => {
-            let mut whole = schema_bytes(columns);
-            damage_bytes(random, &mut whole);
-            return whole;
+            parts[at].pop();
         }
     }
     count.extend(parts.concat());
     count
+}
+
+fn damaged_as_a_whole(random: &mut Random, columns: &[Column], numbers: &mut Numbers) -> Vec<u8> {
+    let mut out = lay_schema(columns, numbers);
+    if random.once_in(3) {
+        damage_bytes(random, &mut out);
+    } else {
+        damage_number(random, &mut out, &numbers.spots);
+    }
+    out
 }
 
 /// A column whose parameters are out of bounds or ill-formed.
@@ -139,17 +131,25 @@ fn bad_parameters(random: &mut Random) -> Vec<u8> {
     let mut out = vec![id, 1];
     match id {
         14 => match random.below(3) {
-            0 => out.extend(random.pick(&[[0, 0], [39, 0], [39, 39], [5, 6], [18, 19], [38, 39]])),
+            0 => {
+                let bad = [[0, 0], [39, 0], [39, 39], [5, 6], [18, 19], [38, 39]];
+                for number in random.pick(&bad) {
+                    push_any_form(random, number, &mut out);
+                }
+            }
             1 => {
-                out.push(5);
+                push_any_form(random, 5, &mut out);
                 out.extend(bad_varint(random, 5));
             }
             _ => {
                 out.extend(bad_varint(random, 20));
-                out.push(0);
+                push_any_form(random, 0, &mut out);
             }
         },
-        15 | 16 if random.once_in(2) => out.push(random.pick(&[10, 11, 127])),
+        15 | 16 if random.once_in(2) => {
+            let precision = random.pick(&[10, 11, 127]);
+            push_any_form(random, precision, &mut out);
+        }
         _ => out.extend(bad_varint(random, 3)),
     }
     out
@@ -257,19 +257,16 @@ pub fn bits_width(kind: Type) -> usize {
     }
 }
 
-pub fn push_counted(bytes: &[u8], out: &mut Vec<u8>) {
-    push_varint(bytes.len() as u32, out);
-    out.extend_from_slice(bytes);
-}
-
 /// Text or bytes whose length is ill-formed or too large; a large DECIMAL without bytes.
 pub fn bad_counted(random: &mut Random, kind: Type) -> Vec<u8> {
-    if matches!(kind, Type::Decimal { .. }) && random.once_in(2) {
-        return vec![0];
-    }
     let mut out = Vec::new();
+    if matches!(kind, Type::Decimal { .. }) && random.once_in(2) {
+        push_any_form(random, 0, &mut out);
+        return out;
+    }
     if random.once_in(3) {
-        push_varint(random.pick(&[200, 20_000, 16_777_216, u32::MAX]), &mut out);
+        let length = random.pick(&[200, 20_000, 16_777_216, u32::MAX]);
+        push_any_form(random, length, &mut out);
     } else {
         out = bad_varint(random, 3);
     }

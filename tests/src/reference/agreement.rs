@@ -9,6 +9,7 @@ use crate::generate::schema::Value;
 use crate::generate::{self, Random};
 use std::collections::BTreeSet;
 
+mod old_rule;
 mod packing;
 
 fn form(set: &[u32]) -> Vec<u8> {
@@ -61,7 +62,7 @@ fn both_ways_to_write_256_are_edges() {
 
 /// tests/self-test has two numbers of cases: of most groups, and of bitmap_read. Edges begin at case 1,000.
 #[test]
-fn the_self_test_reaches_all_edges_of_bitmaps() {
+fn the_self_test_reaches_all_edges() {
     let number = |text: &str| text.lines().next().and_then(|line| line.parse::<u64>().ok());
     let script = include_str!("../../self-test");
     let edges: Vec<u64> = script.split("cases=").filter_map(number).map(|n| n - 1000).collect();
@@ -69,6 +70,9 @@ fn the_self_test_reaches_all_edges_of_bitmaps() {
     assert!(generate::bitmap::edge(read).is_none());
     assert!(generate::bitmap::edge_list(most).is_none());
     assert!(generate::bitmap::edge_pair(most).is_none());
+    assert!(generate::numbers::edge(most).is_none());
+    assert!(generate::rows::edge(most).is_none());
+    assert!(generate::buckets::edge(most).is_none());
 }
 
 #[test]
@@ -148,6 +152,15 @@ fn edges_of_blocks() {
         super::rows::check(&case.schema, &case.block)
     };
     assert_eq!([0, 1, 2, 3].map(outcome), [Ok(65_536), Err(22), Ok(1), Err(21)]);
+    let edges = (4..).map_while(generate::rows::edge);
+    let mut outcomes: Vec<_> =
+        edges.map(|case| super::rows::check(&case.schema, &case.block)).collect();
+    assert_eq!(outcomes.len(), 75);
+    // All forms of a number have one outcome.
+    outcomes.dedup();
+    let schemas = [Ok(0), Err(20), Ok(0), Err(20), Ok(0)];
+    let rows = [Ok(1), Err(24), Ok(1), Err(24)];
+    assert_eq!(outcomes, [&schemas[..], &rows].concat());
 }
 
 #[test]
@@ -172,4 +185,13 @@ fn edges_of_buckets() {
         super::buckets::check(&case.schema, case.rows, &case.bucket)
     };
     assert_eq!([0, 1, 2, 3].map(outcome), [Ok(()), Err(37), Ok(()), Err(37)]);
+    let edges = (4..).map_while(generate::buckets::edge);
+    let mut outcomes: Vec<u32> = edges
+        .map(|case| super::buckets::check(&case.schema, case.rows, &case.bucket))
+        .map(|outcome| outcome.err().unwrap_or(0))
+        .collect();
+    assert_eq!(outcomes.len(), 84);
+    // All forms of a number have one outcome.
+    outcomes.dedup();
+    assert_eq!(outcomes, [0, 30, 0, 30, 0, 33, 0, 31, 0, 31, 32, 0]);
 }

@@ -1,7 +1,7 @@
 //! Uncompressed monolithic Mosaic buckets with flat columns; values are big endian.
 
 use super::schema::{self, Column, Type};
-use super::varint::{self, Fault};
+use super::varint::{self, Fault, Number};
 use super::{Answer, Refusal, MAX_BYTES, MAX_ROWS};
 
 #[derive(Clone, Copy, PartialEq, Eq)]
@@ -125,12 +125,12 @@ struct Reader<'a> {
 impl<'a> Reader<'a> {
     /// A number of the header that has to be the expected one.
     fn header_number(&mut self, expected: u32) -> Result<(), Refusal> {
-        let (value, place) = varint::read(self.bytes, self.place).map_err(|fault| match fault {
+        let number = varint::read(self.bytes, self.place).map_err(|fault| match fault {
             Fault::CutShort => 31,
             Fault::IllFormed => 30u32,
         })?;
-        self.place = place;
-        if value == expected {
+        self.place = number.next;
+        if number.value == expected {
             Ok(())
         } else {
             Err(30)
@@ -201,10 +201,10 @@ impl<'a> Reader<'a> {
 
     /// The number of entries of a table.
     fn entries(&mut self) -> Result<u32, Refusal> {
-        let (entries, place) = varint::read(self.bytes, self.place).map_err(value_refusal)?;
-        self.place = place;
-        if (2..=255).contains(&entries) {
-            Ok(entries)
+        let entries = varint::read(self.bytes, self.place).map_err(value_refusal)?;
+        self.place = entries.next;
+        if (2..=255).contains(&entries.value) {
+            Ok(entries.value)
         } else {
             Err(33)
         }
@@ -347,7 +347,8 @@ fn nanoseconds(value: &[u8]) -> u32 {
 
 /// Start and length of text, bytes or a large DECIMAL, whose length lies at the place.
 fn counted(kind: Type, bytes: &[u8], place: usize) -> Result<(usize, usize), Refusal> {
-    let (length, start) = varint::read(bytes, place).map_err(value_refusal)?;
+    let Number { value: length, next: start, .. } =
+        varint::read(bytes, place).map_err(value_refusal)?;
     if length as usize > bytes.len() - start {
         return Err(31);
     }
@@ -389,6 +390,7 @@ fn signed(value: &[u8]) -> i64 {
 
 #[cfg(test)]
 mod tests {
+    use super::super::varint::old;
     use super::*;
 
     #[test]
@@ -432,7 +434,7 @@ mod tests {
             (tiny, 65_537, &[], 37),
             (tiny, 0, &[], 31),
             (tiny, 0, &[0x81], 31),
-            (tiny, 0, &[0x81, 0], 30),
+            (tiny, 0, &[0x81, 0x80, 0x80, 0x80, 0x10], 30),
             (tiny, 0, &[2], 30),
             (tiny, 0, &[1], 31),
             (tiny, 0, &[1, 1], 30),
@@ -444,7 +446,7 @@ mod tests {
             (tiny, 0, &[1, 0, 1, 0], 31),
             (&[1, 0, 0], 0, &[1, 0, 1, 0, 2], 32),
             (tiny, 0, &[1, 0, 2, 0], 31),
-            (tiny, 0, &[1, 0, 2, 0, 0x82, 0], 32),
+            (tiny, 0, &[1, 0, 2, 0, 0x82, 0x80, 0x80, 0x80, 0x10], 32),
             (tiny, 0, &[1, 0, 2, 0, 1], 33),
             (tiny, 0, &[1, 0, 2, 0, 0x80, 2], 33),
             (tiny, 0, &[1, 0, 2, 0, 2, 5], 31),
@@ -464,5 +466,62 @@ mod tests {
         assert_eq!(check(tiny, 0, &vec![0; MAX_BYTES + 1]), Err(37));
         assert_eq!(check(tiny, 0, &[1, 0, 3, 1]), Ok(()));
         assert_eq!(field(tiny, 0, &[1, 0, 3, 1], 0, 0), Err(25));
+    }
+
+    #[test]
+    fn padded_buckets() {
+        let tiny: &[u8] = &[1, 1, 0];
+        let text: &[u8] = &[1, 10, 0];
+        let decimal: &[u8] = &[1, 14, 0, 19, 0];
+        let place = |start, length| Answer::Place { start, length };
+        let table: [(&[u8], &[u8], Answer); 12] = [
+            (tiny, &[0x81, 0, 0, 0, 0, 7], Answer::Whole(7)),
+            (tiny, &[0x81, 0x80, 0x80, 0x80, 0, 0, 0, 0, 7], Answer::Whole(7)),
+            (tiny, &[1, 0x80, 0, 0, 0, 7], Answer::Whole(7)),
+            (tiny, &[1, 0, 2, 0, 0x82, 0, 7, 8, 1], Answer::Whole(8)),
+            (tiny, &[1, 0, 2, 0, 0x82, 0x80, 0x80, 0x80, 0, 7, 8, 1], Answer::Whole(8)),
+            (text, &[1, 0, 0, 0, 0x80, 0x80, 0], place(7, 0)),
+            (text, &[1, 0, 0, 0, 0x81, 0x80, 0, 0x41], place(7, 1)),
+            (text, &[1, 0, 1, 0, 0x81, 0, 0x41], place(6, 1)),
+            (text, &[1, 0, 2, 0, 2, 0, 0x81, 0, 0x41, 1], place(8, 1)),
+            (decimal, &[1, 0, 0, 0, 0x81, 0, 7], place(6, 1)),
+            (decimal, &[1, 0, 1, 0, 0x81, 0x80, 0x80, 0x80, 0, 7], place(9, 1)),
+            (&[0x81, 0, 1, 0], &[0x81, 0, 0x80, 0, 0, 0, 7], Answer::Whole(7)),
+        ];
+        for (schema, bucket, answer) in table {
+            assert_eq!(field(schema, 1, bucket, 0, 0), Ok(answer), "{bucket:?}");
+            assert!(old::ask(|| check(schema, 1, bucket)).is_err(), "{bucket:?}");
+        }
+    }
+
+    /// Refusals of padded numbers today, and by the old rule.
+    #[test]
+    fn padded_numbers_are_judged_on() {
+        let tiny: &[u8] = &[1, 1, 0];
+        let text: &[u8] = &[1, 10, 0];
+        let decimal: &[u8] = &[1, 14, 0, 19, 0];
+        let table: [(&[u8], &[u8], u32, u32); 17] = [
+            (tiny, &[0x82, 0, 0, 0, 0, 7], 30, 30),
+            (tiny, &[0x81, 0], 31, 30),
+            (tiny, &[0x81, 0x80, 0x80, 0x80, 0x80], 30, 30),
+            (tiny, &[0x81, 0x80, 0x80, 0x80], 31, 31),
+            (tiny, &[1, 0x81, 0, 0, 0, 7], 30, 30),
+            (tiny, &[1, 0x80, 0], 31, 30),
+            (tiny, &[1, 0, 2, 0, 0x81, 0, 7, 1], 33, 32),
+            (tiny, &[1, 0, 2, 0, 0x80, 0], 33, 32),
+            (tiny, &[1, 0, 2, 0, 0x80, 0x82, 0, 7, 8, 1], 33, 32),
+            (tiny, &[1, 0, 2, 0, 0x82, 0], 31, 32),
+            (tiny, &[1, 0, 2, 0, 0x82, 0x80], 31, 31),
+            (tiny, &[1, 0, 2, 0, 0x82, 0x80, 0x80, 0x80, 0x80], 32, 32),
+            (text, &[1, 0, 0, 0, 0x82, 0, 0x41], 31, 32),
+            (text, &[1, 0, 0, 0, 0x82, 0x80, 0x80, 0x80], 31, 31),
+            (text, &[1, 0, 0, 0, 0x82, 0x80, 0x80, 0x80, 0x80], 32, 32),
+            (text, &[1, 0, 0, 0, 0x81, 0, 0x41, 0], 36, 32),
+            (decimal, &[1, 0, 0, 0, 0x80, 0], 32, 32),
+        ];
+        for (schema, bucket, today, before) in table {
+            assert_eq!(check(schema, 1, bucket), Err(today), "{bucket:?}");
+            assert_eq!(old::ask(|| check(schema, 1, bucket)), Err(before), "{bucket:?}");
+        }
     }
 }

@@ -1,7 +1,8 @@
 //! Row blocks: rows, one 4-byte offset a row, a 4-byte row count, little endian.
 
 use super::schema::{self, Column, Type};
-use super::{varint, Answer, Refusal, MAX_BYTES, MAX_ROWS};
+use super::varint::{self, Number};
+use super::{Answer, Refusal, MAX_BYTES, MAX_ROWS};
 
 /// An accepted block.
 pub struct Block<'a> {
@@ -150,12 +151,13 @@ fn field_end(kind: Type, bytes: &[u8], place: usize) -> Option<usize> {
 
 /// The nanoseconds at the place, and the place after them.
 fn nanoseconds(bytes: &[u8], place: usize) -> Option<(u32, usize)> {
-    varint::read(bytes, place).ok().filter(|&(nanos, _)| nanos <= 999_999)
+    let nanos = varint::read(bytes, place).ok()?;
+    (nanos.value <= 999_999).then_some((nanos.value, nanos.next))
 }
 
 /// Start and length of text, bytes or a large DECIMAL, whose length lies at the place.
 fn counted(kind: Type, bytes: &[u8], place: usize) -> Option<(usize, usize)> {
-    let (length, start) = varint::read(bytes, place).ok()?;
+    let Number { value: length, next: start, .. } = varint::read(bytes, place).ok()?;
     let empty_decimal = length == 0 && matches!(kind, Type::Decimal { .. });
     if length as usize > bytes.len() - start || empty_decimal {
         return None;
@@ -190,6 +192,7 @@ fn field_answer(kind: Type, bytes: &[u8], place: usize) -> Option<Answer> {
 
 #[cfg(test)]
 mod tests {
+    use super::super::varint::old;
     use super::*;
 
     fn block(rows: &[&[u8]]) -> Vec<u8> {
@@ -261,5 +264,67 @@ mod tests {
         assert_eq!(check(&[1, 14, 0, 19, 0], &block(&[&[0, 0]])), Err(24));
         let nanos = [0, 0, 0, 0, 0, 0, 0, 0, 0, 0xC0, 0x84, 0x3D];
         assert_eq!(check(&[1, 16, 0, 4], &block(&[&nanos])), Err(24));
+    }
+
+    #[test]
+    fn a_place_starts_after_the_padded_length() {
+        let text = [1, 10, 0];
+        let block = [0, 0x81, 0x80, 0, 0x41, 0, 0, 0, 0, 1, 0, 0, 0];
+        assert_eq!(check(&text, &block), Ok(1));
+        assert_eq!(field(&text, &block, 0, 0), Ok(Answer::Place { start: 4, length: 1 }));
+        assert_eq!(block[4], 0x41);
+        assert_eq!(old::ask(|| check(&text, &block)), Err(24));
+        let padded_schema = [0x81, 0, 10, 0];
+        let place = Answer::Place { start: 4, length: 1 };
+        assert_eq!(field(&padded_schema, &block, 0, 0), Ok(place));
+        assert_eq!(old::ask(|| check(&padded_schema, &block)), Err(20));
+    }
+
+    #[test]
+    fn padded_fields() {
+        let text: &[u8] = &[1, 10, 0];
+        let decimal: &[u8] = &[1, 14, 0, 19, 0];
+        let place = |start, length| Ok(Answer::Place { start, length });
+        let table: [(&[u8], &[u8], Result<Answer, Refusal>); 9] = [
+            (text, &[0, 0x80, 0x80, 0], place(4, 0)),
+            (text, &[0, 0x80, 0x80, 0x80, 0x80, 0], place(6, 0)),
+            (text, &[0, 0x82, 0, 1, 2], place(3, 2)),
+            (text, &[0, 0x83, 0, 1, 2], Err(24)),
+            (text, &[0, 0x82, 0x80, 0x80, 0x80, 0x10, 1, 2], Err(24)),
+            (text, &[0, 0x82, 0x80, 0x80, 0x80, 0x80, 0, 1, 2], Err(24)),
+            (text, &[0, 0x82, 0x80], Err(24)),
+            (decimal, &[0, 0x81, 0x80, 0x80, 0x80, 0, 7], place(6, 1)),
+            (decimal, &[0, 0x80, 0], Err(24)),
+        ];
+        for (schema, row, answer) in table {
+            assert_eq!(field(schema, &block(&[row]), 0, 0), answer, "{row:?}");
+        }
+    }
+
+    #[test]
+    fn padded_nanoseconds() {
+        let timestamp = [1, 16, 0, 4];
+        let ask = |nanos: &[u8]| {
+            let row = [&[0, 7, 0, 0, 0, 0, 0, 0, 0][..], nanos].concat();
+            field(&timestamp, &block(&[&row]), 0, 0)
+        };
+        let time = |nanos| Ok(Answer::Time { count: 7, nanos });
+        assert_eq!(ask(&[0x80, 0]), time(0));
+        assert_eq!(ask(&[0x85, 0x80, 0x80, 0x80, 0]), time(5));
+        assert_eq!(ask(&[0xBF, 0x84, 0xBD, 0]), time(999_999));
+        assert_eq!(old::ask(|| ask(&[0xBF, 0x84, 0xBD, 0])), Err(24));
+        assert_eq!(ask(&[0xC0, 0x84, 0xBD, 0]), Err(24));
+        assert_eq!(ask(&[0x85, 0x80, 0x80, 0x80, 0x10]), Err(24));
+    }
+
+    /// The row's length was bad for its padding; now the next offset is wrong.
+    #[test]
+    fn a_padded_length_leads_to_the_next_offset() {
+        let text = [1, 10, 0];
+        let mut block = block(&[&[0, 0x81, 0, 0x41], &[0, 0]]);
+        assert_eq!(check(&text, &block), Ok(2));
+        block[10] = 3;
+        assert_eq!(check(&text, &block), Err(23));
+        assert_eq!(old::ask(|| check(&text, &block)), Err(24));
     }
 }

@@ -108,10 +108,10 @@ impl Reader<'_> {
     }
 
     fn number(&mut self, low: u32, high: u32) -> Result<u32, Refusal> {
-        let (value, place) = varint::read(self.bytes, self.place).map_err(|_| 20u32)?;
-        self.place = place;
-        if (low..=high).contains(&value) {
-            Ok(value)
+        let number = varint::read(self.bytes, self.place).map_err(|_| 20u32)?;
+        self.place = number.next;
+        if (low..=high).contains(&number.value) {
+            Ok(number.value)
         } else {
             Err(20)
         }
@@ -162,6 +162,7 @@ impl Reader<'_> {
 
 #[cfg(test)]
 mod tests {
+    use super::super::varint::old;
     use super::*;
 
     #[test]
@@ -189,8 +190,8 @@ mod tests {
             &[1, 17, 0],
             &[1, 0, 2],
             &[1, 0, 0, 0],
-            &[0x81, 0, 0, 0],
-            &[1, 8, 0, 0x80, 0],
+            &[0x81, 0x80, 0x80, 0x80, 0x10, 0, 0],
+            &[1, 8, 0, 0x80, 0x80, 0x80, 0x80, 0x80, 0],
             &[1, 14, 0, 0, 0],
             &[1, 14, 0, 39, 0],
             &[1, 14, 0, 5, 6],
@@ -206,5 +207,45 @@ mod tests {
         many[0] = 64;
         many.truncate(129);
         assert_eq!(check(&many), Ok(64));
+    }
+
+    #[test]
+    fn padded_schemas() {
+        let table: [(&[u8], &[u8]); 7] = [
+            (&[1, 10, 0], &[0x81, 0, 10, 0]),
+            (&[1, 8, 1, 0], &[1, 8, 1, 0x80, 0x80, 0]),
+            (&[1, 9, 0, 0x80, 1], &[1, 9, 0, 0x80, 0x81, 0x80, 0]),
+            (&[1, 14, 0, 19, 0], &[1, 14, 0, 0x93, 0, 0x80, 0x80, 0x80, 0x80, 0]),
+            (&[1, 14, 1, 38, 38], &[0x81, 0x80, 0, 14, 1, 38, 0xA6, 0]),
+            (&[1, 15, 0, 9], &[1, 15, 0, 0x89, 0x80, 0x80, 0]),
+            (&[1, 16, 0, 0], &[0x81, 0x80, 0x80, 0x80, 0, 16, 0, 0x80, 0]),
+        ];
+        for (shortest, padded) in table {
+            assert!(check(shortest).is_ok());
+            assert_eq!(read(padded), read(shortest), "{padded:?}");
+            assert_eq!(old::ask(|| check(padded)), Err(20), "{padded:?}");
+            for cut in 0..padded.len() {
+                assert_eq!(check(&padded[..cut]), Err(20), "{padded:?}");
+            }
+        }
+    }
+
+    #[test]
+    fn padded_numbers_are_judged_by_value() {
+        let mut many = vec![0xC1, 0];
+        many.extend([0, 0].repeat(65));
+        let table: [&[u8]; 8] = [
+            &[0x80, 0],
+            &many,
+            &[1, 14, 0, 0x80, 0, 0],
+            &[1, 14, 0, 0xA7, 0, 0],
+            &[1, 14, 0, 5, 0x86, 0],
+            &[1, 15, 0, 0x8A, 0x80, 0],
+            &[1, 16, 0, 0x8A, 0],
+            &[0x81, 0, 10, 0, 0],
+        ];
+        for schema in table {
+            assert_eq!(check(schema), Err(20), "{schema:?}");
+        }
     }
 }

@@ -1,5 +1,10 @@
 //! Seven-bit-group numbers: low group first, high bit set on all but the last byte, at most 5 bytes,
-//! at most 4,294,967,295, no longer than needed.
+//! at most 4,294,967,295. Any such form is read, padded or not.
+
+#[cfg(test)]
+pub mod old;
+#[cfg(test)]
+mod tests;
 
 #[derive(Clone, Copy, Debug, PartialEq, Eq)]
 pub enum Fault {
@@ -7,8 +12,29 @@ pub enum Fault {
     IllFormed,
 }
 
-/// The number at the place, and the place after it.
-pub fn read(bytes: &[u8], place: usize) -> Result<(u32, usize), Fault> {
+/// A number that stands in bytes.
+#[derive(Clone, Copy, Debug, PartialEq, Eq)]
+pub struct Number {
+    pub value: u32,
+    /// The place after it.
+    pub next: usize,
+    /// Whether no form of the number has fewer bytes.
+    pub shortest: bool,
+}
+
+/// The number at the place.
+pub fn read(bytes: &[u8], place: usize) -> Result<Number, Fault> {
+    #[cfg(test)]
+    if old::in_force() {
+        return old::read_marked(bytes, place);
+    }
+    let number = read_any_form(bytes, place);
+    #[cfg(test)]
+    old::note(&number);
+    number
+}
+
+fn read_any_form(bytes: &[u8], place: usize) -> Result<Number, Fault> {
     let mut value = 0;
     for i in 0..5 {
         let &byte = bytes.get(place + i).ok_or(Fault::CutShort)?;
@@ -17,48 +43,8 @@ pub fn read(bytes: &[u8], place: usize) -> Result<(u32, usize), Fault> {
         }
         value |= u32::from(byte & 0x7F) << (7 * i);
         if byte < 0x80 {
-            let padded = i > 0 && byte == 0;
-            return if padded { Err(Fault::IllFormed) } else { Ok((value, place + i + 1)) };
+            return Ok(Number { value, next: place + i + 1, shortest: i == 0 || byte > 0 });
         }
     }
     Err(Fault::IllFormed)
-}
-
-#[cfg(test)]
-mod tests {
-    use super::*;
-
-    #[test]
-    fn numbers_of_source_000() {
-        let table: [(&[u8], u32); 7] = [
-            (&[0], 0),
-            (&[0x7F], 127),
-            (&[0x80, 1], 128),
-            (&[0xFF, 0x7F], 16_383),
-            (&[0x80, 0x80, 1], 16_384),
-            (&[0xFF, 0xFF, 0xFF, 0xFF, 0x0F], u32::MAX),
-            (&[0x80, 0x80, 0x80, 0x80, 1], 1 << 28),
-        ];
-        for (bytes, value) in table {
-            assert_eq!(read(bytes, 0), Ok((value, bytes.len())));
-            for cut in 0..bytes.len() {
-                assert_eq!(read(&bytes[..cut], 0), Err(Fault::CutShort));
-            }
-        }
-    }
-
-    #[test]
-    fn ill_formed_numbers() {
-        let table: [&[u8]; 6] = [
-            &[0x80, 0],
-            &[0xFF, 0x80, 0],
-            &[0x80, 0x80, 0x80, 0x80, 0],
-            &[0xFF, 0xFF, 0xFF, 0xFF, 0x10],
-            &[0xFF, 0xFF, 0xFF, 0xFF, 0xFF],
-            &[0x80, 0x80, 0x80, 0x80, 0x80, 1],
-        ];
-        for bytes in table {
-            assert_eq!(read(bytes, 0), Err(Fault::IllFormed), "{bytes:?}");
-        }
-    }
 }
