@@ -1,5 +1,7 @@
 //! The comparison of the library with the second program, case by case.
 
+#[cfg(any(feature = "rows", feature = "buckets"))]
+use crate::ffi::{Called, Field};
 use crate::generate::Random;
 use std::collections::BTreeMap;
 use std::fmt::Debug;
@@ -12,6 +14,8 @@ mod bitmap_write;
 mod buckets;
 #[cfg(feature = "combine")]
 mod combine;
+#[cfg(feature = "numbers")]
+mod numbers;
 #[cfg(feature = "combine")]
 mod plans;
 #[cfg(feature = "rows")]
@@ -66,6 +70,14 @@ pub fn groups() -> Vec<Group> {
         },
         #[cfg(feature = "combine")]
         Group { name: "plans", refusals: &[13], default_cases: 10_000, run_case: plans::run_case },
+        #[cfg(feature = "numbers")]
+        Group {
+            name: "numbers",
+            // No refusals: what was found.
+            refusals: &[1, 2],
+            default_cases: 200_000,
+            run_case: numbers::run_case,
+        },
         #[cfg(feature = "rows")]
         Group {
             name: "rows",
@@ -167,6 +179,12 @@ fn room_to_combine(random: &mut Random, length: usize) -> usize {
         2 => length + random.below(9_000),
         _ => room_around(random, length),
     }
+}
+
+/// A field's answer, with the bytes of its place instead of the place.
+#[cfg(any(feature = "rows", feature = "buckets"))]
+fn by_bytes(answer: Called<Field>, bytes: &[u8]) -> Result<Result<(Field, Vec<u8>), u32>, String> {
+    answer?.map_or_else(|refusal| Ok(Err(refusal)), |field| field.by_bytes(bytes).map(Ok))
 }
 
 /// A row or column to ask for: mostly one of `count`, at times an absent one.

@@ -2,6 +2,7 @@
 
 use super::{measure, Print};
 use crate::ffi::Field;
+use crate::generate::numbers::Numbers;
 use crate::generate::schema::schema_bytes;
 use crate::generate::Random;
 use crate::reference::schema::{Column, Type};
@@ -90,7 +91,7 @@ pub fn run_rows(print: Print) {
     let mut random = Random::new(3);
     let columns = mixed_columns(38);
     let schema = schema_bytes(&columns);
-    let large = filled(&mut random, &columns, MAX_BYTES, 65_536);
+    let large = filled(&mut random, &columns, MAX_BYTES, 65_536, &mut Numbers::shortest());
     let rows = reference::check(&schema, &large).expect("a sound block");
     let input = describe(large.len(), rows, columns.len());
     let sides = sides!(bv_block_check as BlockCheck);
@@ -98,7 +99,7 @@ pub fn run_rows(print: Print) {
     print(measure("block check", &input, sides, checking, &mut || {
         black_box(reference::check(&schema, black_box(&large))).ok();
     }));
-    let small = filled(&mut random, &columns, 65_536, 65_536);
+    let small = filled(&mut random, &columns, 65_536, 65_536, &mut Numbers::shortest());
     let rows = reference::check(&schema, &small).expect("a sound block");
     let input = describe(small.len(), rows, columns.len());
     let fields = columns.len() as u32;
@@ -122,10 +123,10 @@ pub fn run_buckets(print: Print) {
     let rows = 65_536;
     let mut columns = mixed_columns(64);
     let tags = [PLAIN, PLAIN, PLAIN, DICT, PLAIN];
-    let mut large = filled(&mut random, &columns, rows as usize, &tags);
+    let mut large = filled(&mut random, &columns, rows as usize, &tags, &mut Numbers::shortest());
     while large.len() > MAX_BYTES {
         columns.pop();
-        large = filled(&mut random, &columns, rows as usize, &tags);
+        large = filled(&mut random, &columns, rows as usize, &tags, &mut Numbers::shortest());
     }
     let schema = schema_bytes(&columns);
     assert_eq!(reference::check(&schema, rows, &large), Ok(()));
@@ -141,7 +142,7 @@ pub fn run_buckets(print: Print) {
     ));
     let rows = 50;
     let tags = [PLAIN, CONST, DICT, PLAIN, ALL_NULL];
-    let small = filled(&mut random, &columns, rows as usize, &tags);
+    let small = filled(&mut random, &columns, rows as usize, &tags, &mut Numbers::shortest());
     let input = describe(small.len(), rows, columns.len());
     let fields = columns.len() as u32;
     let second = |row, column| reference::field(&schema, rows, &small, row, column).ok();

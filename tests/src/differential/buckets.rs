@@ -1,15 +1,24 @@
 //! Buckets.
 
-use super::{any_index, edge_number, hex, same, Tally};
+use super::{any_index, by_bytes, edge_number, hex, same, Tally};
 use crate::ffi::{buckets, Field, Lent};
-use crate::generate::{buckets as generate, Random};
+use crate::generate::buckets::{self as generate, Case};
+use crate::generate::Random;
 use crate::reference::buckets::Bucket;
 use crate::reference::schema;
 
 pub fn run_case(case: u64, random: &mut Random, tally: &mut Tally) -> Result<(), String> {
     let case = match edge_number(case).and_then(generate::edge) {
         Some(case) => case,
-        None if random.once_in(3) => generate::sound(random),
+        None if random.once_in(3) => {
+            let [shortest, padded] = generate::twins(random);
+            compare_twins(&shortest, &padded, random)?;
+            if random.once_in(2) {
+                shortest
+            } else {
+                padded
+            }
+        }
         None => generate::damaged(random),
     };
     let schema = Lent::input("schema", &case.schema, random);
@@ -19,9 +28,7 @@ pub fn run_case(case: u64, random: &mut Random, tally: &mut Tally) -> Result<(),
     let judged = Bucket::judge(&case.schema, rows, &case.bucket);
     let expected = judged.as_ref().map(|_| ()).map_err(|&refusal| refusal);
     tally.count(&expected);
-    let text =
-        || format!("\nrows {rows}, schema {}\nbucket {}", hex(&case.schema), hex(&case.bucket));
-    let question = || format!("bucket check{}", text());
+    let question = || format!("bucket check{}", text(&case));
     same(question, buckets::bucket_check(&schema, rows, &bucket), expected)?;
 
     let columns = schema::check(&case.schema).unwrap_or(3);
@@ -33,9 +40,39 @@ pub fn run_case(case: u64, random: &mut Random, tally: &mut Tally) -> Result<(),
             Err(refusal) => Err(*refusal),
         };
         tally.count(&expected);
-        let question = || format!("bucket field, row {row}, column {column}{}", text());
+        let question = || format!("bucket field, row {row}, column {column}{}", text(&case));
         let answer = buckets::bucket_field(&schema, rows, &bucket, row, column, random);
         same(question, answer, expected)?;
+    }
+    Ok(())
+}
+
+fn text(case: &Case) -> String {
+    let (schema, bucket) = (hex(&case.schema), hex(&case.bucket));
+    format!("\nrows {}, schema {schema}\nbucket {bucket}", case.rows)
+}
+
+/// The library answers for padded numbers as it does for shortest ones, places by their bytes.
+fn compare_twins(shortest: &Case, padded: &Case, random: &mut Random) -> Result<(), String> {
+    let twins = [shortest, padded];
+    let [schema, padded_schema] = twins.map(|case| Lent::input("schema", &case.schema, random));
+    let [bucket, padded_bucket] = twins.map(|case| Lent::input("bucket", &case.bucket, random));
+    let question =
+        |call: &str| format!("{call} of the shortest twin{}\nand{}", text(shortest), text(padded));
+    let rows = shortest.rows;
+    let expected = buckets::bucket_check(&schema, rows, &bucket)?;
+    let answer = buckets::bucket_check(&padded_schema, rows, &padded_bucket);
+    same(|| question("bucket check"), answer, expected)?;
+    let columns = schema::check(&shortest.schema).unwrap_or(0);
+    for _ in 0..8 {
+        let row = any_index(random, rows as usize);
+        let column = any_index(random, columns as usize);
+        let [expected, answer] =
+            [(&schema, &bucket), (&padded_schema, &padded_bucket)].map(|(schema, bucket)| {
+                let answer = buckets::bucket_field(schema, rows, bucket, row, column, random);
+                by_bytes(answer, bucket.content())
+            });
+        same(|| question(&format!("bucket field, row {row}, column {column}")), answer, expected?)?;
     }
     Ok(())
 }

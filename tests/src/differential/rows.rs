@@ -1,15 +1,24 @@
 //! Schemas and row blocks.
 
-use super::{any_index, edge_number, hex, same, Tally};
+use super::{any_index, by_bytes, edge_number, hex, same, Tally};
 use crate::ffi::{rows, Field, Lent};
-use crate::generate::{rows as generate, schema as generate_schema, Random};
+use crate::generate::rows::{self as generate, Case};
+use crate::generate::{schema as generate_schema, Random};
 use crate::reference::rows::Block;
 use crate::reference::schema;
 
 pub fn run_case(case: u64, random: &mut Random, tally: &mut Tally) -> Result<(), String> {
     let case = match edge_number(case).and_then(generate::edge) {
         Some(case) => case,
-        None if random.once_in(3) => generate::sound(random),
+        None if random.once_in(3) => {
+            let [shortest, padded] = generate::twins(random);
+            compare_twins(&shortest, &padded, random)?;
+            if random.once_in(2) {
+                shortest
+            } else {
+                padded
+            }
+        }
         None => generate::damaged(random),
     };
     let schema = Lent::input("schema", &case.schema, random);
@@ -21,8 +30,7 @@ pub fn run_case(case: u64, random: &mut Random, tally: &mut Tally) -> Result<(),
     let judged = Block::judge(&case.schema, &case.block);
     let rows = judged.as_ref().map(|block| block.rows() as u32).map_err(|&refusal| refusal);
     tally.count(&rows);
-    let text = || format!("\nschema {}\nblock {}", hex(&case.schema), hex(&case.block));
-    let question = || format!("block check{}", text());
+    let question = || format!("block check{}", text(&case));
     same(question, rows::block_check(&schema, &block, random), rows)?;
 
     let columns = schema::check(&case.schema).unwrap_or(3);
@@ -35,8 +43,42 @@ pub fn run_case(case: u64, random: &mut Random, tally: &mut Tally) -> Result<(),
             Err(refusal) => Err(*refusal),
         };
         tally.count(&expected);
-        let question = || format!("block field, row {row}, column {column}{}", text());
+        let question = || format!("block field, row {row}, column {column}{}", text(&case));
         same(question, rows::block_field(&schema, &block, row, column, random), expected)?;
+    }
+    Ok(())
+}
+
+fn text(case: &Case) -> String {
+    format!("\nschema {}\nblock {}", hex(&case.schema), hex(&case.block))
+}
+
+/// The library answers for padded numbers as it does for shortest ones, places by their bytes.
+fn compare_twins(shortest: &Case, padded: &Case, random: &mut Random) -> Result<(), String> {
+    let twins = [shortest, padded];
+    let [schema, padded_schema] = twins.map(|case| Lent::input("schema", &case.schema, random));
+    let [block, padded_block] = twins.map(|case| Lent::input("block", &case.block, random));
+    let question =
+        |call: &str| format!("{call} of the shortest twin{}\nand{}", text(shortest), text(padded));
+    let columns = rows::schema_check(&schema, random)?;
+    same(|| question("schema check"), rows::schema_check(&padded_schema, random), columns)?;
+    let columns = columns.unwrap_or(0);
+    for column in 0..=columns {
+        let expected = rows::schema_column(&schema, column, random)?;
+        let answer = rows::schema_column(&padded_schema, column, random);
+        same(|| question("schema column"), answer, expected)?;
+    }
+    let count = rows::block_check(&schema, &block, random)?;
+    let answer = rows::block_check(&padded_schema, &padded_block, random);
+    same(|| question("block check"), answer, count)?;
+    for _ in 0..8 {
+        let row = any_index(random, count.unwrap_or(0) as usize);
+        let column = any_index(random, columns as usize);
+        let [expected, answer] =
+            [(&schema, &block), (&padded_schema, &padded_block)].map(|(schema, block)| {
+                by_bytes(rows::block_field(schema, block, row, column, random), block.content())
+            });
+        same(|| question(&format!("block field, row {row}, column {column}")), answer, expected?)?;
     }
     Ok(())
 }

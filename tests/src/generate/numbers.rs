@@ -16,11 +16,6 @@ pub fn push_form(value: u32, count: usize, out: &mut Vec<u8>) {
     }
 }
 
-/// Appends the number in the shortest form.
-pub fn push_varint(value: u32, out: &mut Vec<u8>) {
-    push_form(value, fewest(value), out);
-}
-
 /// Appends the number in one of its forms, half of the time in the shortest.
 pub fn push_any_form(random: &mut Random, value: u32, out: &mut Vec<u8>) {
     let fewest = fewest(value);
