@@ -15,6 +15,8 @@ mod combine;
 #[cfg(feature = "croaring")]
 mod croaring;
 mod earlier;
+#[cfg(feature = "numbers")]
+mod numbers;
 #[cfg(feature = "read")]
 mod read;
 #[cfg(any(feature = "rows", feature = "buckets"))]
@@ -54,6 +56,8 @@ pub fn groups() -> Vec<fn(Print)> {
         write::run,
         #[cfg(feature = "combine")]
         combine::run,
+        #[cfg(feature = "numbers")]
+        numbers::run,
         #[cfg(feature = "rows")]
         tables::run_rows,
         #[cfg(feature = "buckets")]
@@ -120,6 +124,12 @@ struct Sides<C> {
 impl<C: Copy> Sides<C> {
     fn of(now: C, name: &str) -> Sides<C> {
         Sides { now, before: earlier::call(name) }
+    }
+
+    /// Without the earlier library unless it does what is measured.
+    #[cfg_attr(not(any(feature = "rows", feature = "buckets")), allow(dead_code))]
+    fn if_earlier(self, does: impl FnOnce(C) -> bool) -> Sides<C> {
+        Sides { before: self.before.filter(|&before| does(before)), ..self }
     }
 }
 

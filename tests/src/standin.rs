@@ -3,11 +3,13 @@
 
 use crate::ffi::{Field, FieldPointers};
 use crate::reference::bitmap::{self, Operation};
-use crate::reference::{buckets, rows, schema, Answer};
+use crate::reference::Answer;
 use std::slice::{from_raw_parts, from_raw_parts_mut};
 use std::sync::OnceLock;
 
 mod explain;
+mod numbers;
+mod places;
 mod widths;
 
 /// Whether the fault of this name is planted.
@@ -37,6 +39,7 @@ pub fn faults() -> Vec<(&'static str, String)> {
     }
     faults.extend(explain::faults().into_iter().map(|name| ("bitmap_read", name)));
     faults.extend(widths::faults());
+    faults.extend(numbers::faults());
     faults
 }
 
@@ -424,9 +427,9 @@ combine!(
 /// As include/barcovento.h says.
 #[no_mangle]
 pub unsafe extern "C" fn bv_schema_check(bytes: *const u8, len: usize, columns: *mut u32) -> u32 {
-    match schema::check(from_raw_parts(bytes, len)) {
-        Ok(count) => {
-            set(columns, count);
+    match numbers::schema(from_raw_parts(bytes, len)) {
+        Ok(read) => {
+            set(columns, read.len() as u32);
             0
         }
         Err(number) => refuse(number),
@@ -445,7 +448,8 @@ pub unsafe extern "C" fn bv_schema_column(
     size: *mut u32,
     scale: *mut u32,
 ) -> u32 {
-    match schema::column(from_raw_parts(bytes, len), column) {
+    let read = numbers::schema(from_raw_parts(bytes, len));
+    match read.and_then(|columns| columns.get(column as usize).copied().ok_or(25)) {
         Ok(column) => {
             set(kind, column.kind.id());
             set(nullable, u8::from(column.nullable != planted("nullable-inverted")));
@@ -468,7 +472,7 @@ pub unsafe extern "C" fn bv_block_check(
     rows: *mut u32,
 ) -> u32 {
     let schema = from_raw_parts(schema, schema_len);
-    match rows::check(schema, from_raw_parts(block, block_len)) {
+    match numbers::block_check(schema, from_raw_parts(block, block_len)) {
         Ok(count) => {
             set(rows, count + u32::from(planted("rows-invented") && count > 3));
             0
@@ -554,7 +558,7 @@ pub unsafe extern "C" fn bv_block_field(
     let schema = from_raw_parts(schema, schema_len);
     let block = from_raw_parts(block, block_len);
     let to = FieldPointers { kind, whole, bits, nanos, start, length };
-    answer_field(rows::field(schema, block, row, column), to)
+    answer_field(numbers::block_field(schema, block, row, column), to)
 }
 
 /// # Safety
@@ -568,7 +572,7 @@ pub unsafe extern "C" fn bv_bucket_check(
     bucket_len: usize,
 ) -> u32 {
     let schema = from_raw_parts(schema, schema_len);
-    match buckets::check(schema, rows, from_raw_parts(bucket, bucket_len)) {
+    match numbers::bucket_check(schema, rows, from_raw_parts(bucket, bucket_len)) {
         Ok(()) => 0,
         Err(number) => refuse(number),
     }
@@ -595,5 +599,5 @@ pub unsafe extern "C" fn bv_bucket_field(
     let schema = from_raw_parts(schema, schema_len);
     let bucket = from_raw_parts(bucket, bucket_len);
     let to = FieldPointers { kind, whole, bits, nanos, start, length };
-    answer_field(buckets::field(schema, rows, bucket, row, column), to)
+    answer_field(numbers::bucket_field(schema, rows, bucket, row, column), to)
 }

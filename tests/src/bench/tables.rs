@@ -1,9 +1,9 @@
 //! Judging large row blocks and buckets, and asking for every field of small ones.
 
-use super::{measure, Print};
+use super::{measure, Line, Print};
 use crate::ffi::Field;
 use crate::generate::numbers::Numbers;
-use crate::generate::schema::schema_bytes;
+use crate::generate::schema::{lay_schema, schema_bytes};
 use crate::generate::Random;
 use crate::reference::schema::{Column, Type};
 use crate::reference::MAX_BYTES;
@@ -82,23 +82,21 @@ fn empty_field() -> Field {
     Field { kind: 0, whole: 0, bits: 0, nanos: 0, start: 0, length: 0 }
 }
 
+/// How the numbers of a benchmark's inputs are written.
+type Written = (&'static str, fn() -> Numbers);
+const SHORTEST: Written = ("", Numbers::shortest);
+const PADDED: Written = (", every number in 5 bytes", Numbers::five_bytes);
+
 #[cfg(feature = "rows")]
 pub fn run_rows(print: Print) {
-    use crate::ffi::rows::{bv_block_check, bv_block_field};
+    use crate::ffi::rows::bv_block_field;
     use crate::generate::rows::filled;
     use crate::reference::rows as reference;
 
     let mut random = Random::new(3);
     let columns = mixed_columns(38);
     let schema = schema_bytes(&columns);
-    let large = filled(&mut random, &columns, MAX_BYTES, 65_536, &mut Numbers::shortest());
-    let rows = reference::check(&schema, &large).expect("a sound block");
-    let input = describe(large.len(), rows, columns.len());
-    let sides = sides!(bv_block_check as BlockCheck);
-    let checking = &mut |call| block_check(call, &schema, &large);
-    print(measure("block check", &input, sides, checking, &mut || {
-        black_box(reference::check(&schema, black_box(&large))).ok();
-    }));
+    print(block_check_line(&mut random, &columns, SHORTEST));
     let small = filled(&mut random, &columns, 65_536, 65_536, &mut Numbers::shortest());
     let rows = reference::check(&schema, &small).expect("a sound block");
     let input = describe(small.len(), rows, columns.len());
@@ -111,35 +109,41 @@ pub fn run_rows(print: Print) {
         &mut |call| ask_all(rows, fields, &|r, c| block_field(call, &schema, &small, r, c)),
         &mut || ask_all(rows, fields, &|row, column| second(row, column).ok()),
     ));
+    print(block_check_line(&mut random, &columns, PADDED));
+}
+
+/// The largest block of these columns.
+#[cfg(feature = "rows")]
+fn block_check_line(random: &mut Random, columns: &[Column], written: Written) -> Line {
+    use crate::ffi::rows::bv_block_check;
+    use crate::generate::rows::filled;
+    use crate::reference::rows as reference;
+
+    let (name, numbers) = written;
+    let schema = lay_schema(columns, &mut numbers());
+    let block = filled(random, columns, MAX_BYTES, 65_536, &mut numbers());
+    let rows = reference::check(&schema, &block).expect("a sound block");
+    let input = describe(block.len(), rows, columns.len()) + name;
+    let sides = sides!(bv_block_check as BlockCheck);
+    let sides = sides.if_earlier(|call| block_check(call, &schema, &block) == 0);
+    let checking = &mut |call| {
+        black_box(block_check(call, &schema, &block));
+    };
+    measure("block check", &input, sides, checking, &mut || {
+        black_box(reference::check(&schema, black_box(&block))).ok();
+    })
 }
 
 #[cfg(feature = "buckets")]
 pub fn run_buckets(print: Print) {
-    use crate::ffi::buckets::{bv_bucket_check, bv_bucket_field};
+    use crate::ffi::buckets::bv_bucket_field;
     use crate::generate::buckets::{filled, ALL_NULL, CONST, DICT, PLAIN};
     use crate::reference::buckets as reference;
 
     let mut random = Random::new(4);
-    let rows = 65_536;
     let mut columns = mixed_columns(64);
-    let tags = [PLAIN, PLAIN, PLAIN, DICT, PLAIN];
-    let mut large = filled(&mut random, &columns, rows as usize, &tags, &mut Numbers::shortest());
-    while large.len() > MAX_BYTES {
-        columns.pop();
-        large = filled(&mut random, &columns, rows as usize, &tags, &mut Numbers::shortest());
-    }
+    print(bucket_check_line(&mut random, &mut columns, SHORTEST));
     let schema = schema_bytes(&columns);
-    assert_eq!(reference::check(&schema, rows, &large), Ok(()));
-    let input = describe(large.len(), rows, columns.len());
-    print(measure(
-        "bucket check",
-        &input,
-        sides!(bv_bucket_check as BucketCheck),
-        &mut |call| bucket_check(call, &schema, rows, &large),
-        &mut || {
-            black_box(reference::check(&schema, rows, black_box(&large))).ok();
-        },
-    ));
     let rows = 50;
     let tags = [PLAIN, CONST, DICT, PLAIN, ALL_NULL];
     let small = filled(&mut random, &columns, rows as usize, &tags, &mut Numbers::shortest());
@@ -153,6 +157,35 @@ pub fn run_buckets(print: Print) {
         &mut |call| ask_all(rows, fields, &|r, c| bucket_field(call, &schema, rows, &small, r, c)),
         &mut || ask_all(rows, fields, &|row, column| second(row, column).map(Field::from)),
     ));
+    print(bucket_check_line(&mut random, &mut columns, PADDED));
+}
+
+/// The largest bucket of the first of these columns; the others are taken away.
+#[cfg(feature = "buckets")]
+fn bucket_check_line(random: &mut Random, columns: &mut Vec<Column>, written: Written) -> Line {
+    use crate::ffi::buckets::bv_bucket_check;
+    use crate::generate::buckets::{filled, DICT, PLAIN};
+    use crate::reference::buckets as reference;
+
+    let (name, numbers) = written;
+    let rows = 65_536;
+    let tags = [PLAIN, PLAIN, PLAIN, DICT, PLAIN];
+    let mut bucket = filled(random, columns, rows as usize, &tags, &mut numbers());
+    while bucket.len() > MAX_BYTES {
+        columns.pop();
+        bucket = filled(random, columns, rows as usize, &tags, &mut numbers());
+    }
+    let schema = lay_schema(columns, &mut numbers());
+    assert_eq!(reference::check(&schema, rows, &bucket), Ok(()));
+    let input = describe(bucket.len(), rows, columns.len()) + name;
+    let sides = sides!(bv_bucket_check as BucketCheck);
+    let sides = sides.if_earlier(|call| bucket_check(call, &schema, rows, &bucket) == 0);
+    let checking = &mut |call| {
+        black_box(bucket_check(call, &schema, rows, &bucket));
+    };
+    measure("bucket check", &input, sides, checking, &mut || {
+        black_box(reference::check(&schema, rows, black_box(&bucket))).ok();
+    })
 }
 
 fn ask_all(rows: u32, columns: u32, ask: &dyn Fn(u32, u32) -> Option<Field>) {
@@ -164,11 +197,12 @@ fn ask_all(rows: u32, columns: u32, ask: &dyn Fn(u32, u32) -> Option<Field>) {
 }
 
 #[cfg(feature = "rows")]
-fn block_check(call: BlockCheck, schema: &[u8], block: &[u8]) {
+fn block_check(call: BlockCheck, schema: &[u8], block: &[u8]) -> u32 {
     let mut rows = 0;
     let code =
         unsafe { call(schema.as_ptr(), schema.len(), block.as_ptr(), block.len(), &mut rows) };
-    black_box((code, rows));
+    black_box(rows);
+    code
 }
 
 #[cfg(feature = "rows")]
@@ -200,9 +234,8 @@ fn block_field(
 }
 
 #[cfg(feature = "buckets")]
-fn bucket_check(call: BucketCheck, schema: &[u8], rows: u32, bucket: &[u8]) {
-    let code = unsafe { call(schema.as_ptr(), schema.len(), rows, bucket.as_ptr(), bucket.len()) };
-    black_box(code);
+fn bucket_check(call: BucketCheck, schema: &[u8], rows: u32, bucket: &[u8]) -> u32 {
+    unsafe { call(schema.as_ptr(), schema.len(), rows, bucket.as_ptr(), bucket.len()) }
 }
 
 #[cfg(feature = "buckets")]

@@ -15,9 +15,13 @@ fn time(seconds: f64) -> String {
 
 fn print(line: &Line) {
     let roaring = line.roaring.map_or("-".to_string(), time);
-    let earlier = line.earlier.as_ref().map_or(String::new(), |earlier| {
-        format!(" {} | {:.2} | {:.2} |", time(earlier.time), earlier.ratio, earlier.change)
-    });
+    let earlier = match &line.earlier {
+        Some(earlier) => {
+            format!(" {} | {:.2} | {:.2} |", time(earlier.time), earlier.ratio, earlier.change)
+        }
+        None if std::env::var("BV_BEFORE").is_ok() => " - | - | - |".to_string(),
+        None => String::new(),
+    };
     println!(
         "| {} | {} | {} | {} | {:.2} | {} |{}",
         line.call,
