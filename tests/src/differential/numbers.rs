@@ -9,7 +9,7 @@ use crate::reference::varint;
 pub fn run_case(case: u64, random: &mut Random, tally: &mut Tally) -> Result<(), String> {
     let inputs = edge_number(case).and_then(generate::edge);
     for input in inputs.unwrap_or_else(|| vec![generate::input(random)]) {
-        let expected = Read::from(varint::read(&input, 0));
+        let expected = Read::from(varint::read_marked(&input, 0));
         tally.count(&match expected.found {
             0 => Ok(()),
             found => Err(u32::from(found)),

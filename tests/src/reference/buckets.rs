@@ -1,7 +1,7 @@
 //! Uncompressed monolithic Mosaic buckets with flat columns; values are big endian.
 
 use super::schema::{self, Column, Type};
-use super::varint::{self, Fault, Number};
+use super::varint::{self, Fault};
 use super::{Answer, Refusal, MAX_BYTES, MAX_ROWS};
 
 #[derive(Clone, Copy, PartialEq, Eq)]
@@ -125,12 +125,12 @@ struct Reader<'a> {
 impl<'a> Reader<'a> {
     /// A number of the header that has to be the expected one.
     fn header_number(&mut self, expected: u32) -> Result<(), Refusal> {
-        let number = varint::read(self.bytes, self.place).map_err(|fault| match fault {
+        let (value, place) = varint::read(self.bytes, self.place).map_err(|fault| match fault {
             Fault::CutShort => 31,
             Fault::IllFormed => 30u32,
         })?;
-        self.place = number.next;
-        if number.value == expected {
+        self.place = place;
+        if value == expected {
             Ok(())
         } else {
             Err(30)
@@ -201,10 +201,10 @@ impl<'a> Reader<'a> {
 
     /// The number of entries of a table.
     fn entries(&mut self) -> Result<u32, Refusal> {
-        let entries = varint::read(self.bytes, self.place).map_err(value_refusal)?;
-        self.place = entries.next;
-        if (2..=255).contains(&entries.value) {
-            Ok(entries.value)
+        let (entries, place) = varint::read(self.bytes, self.place).map_err(value_refusal)?;
+        self.place = place;
+        if (2..=255).contains(&entries) {
+            Ok(entries)
         } else {
             Err(33)
         }
@@ -347,8 +347,7 @@ fn nanoseconds(value: &[u8]) -> u32 {
 
 /// Start and length of text, bytes or a large DECIMAL, whose length lies at the place.
 fn counted(kind: Type, bytes: &[u8], place: usize) -> Result<(usize, usize), Refusal> {
-    let Number { value: length, next: start, .. } =
-        varint::read(bytes, place).map_err(value_refusal)?;
+    let (length, start) = varint::read(bytes, place).map_err(value_refusal)?;
     if length as usize > bytes.len() - start {
         return Err(31);
     }

@@ -1,8 +1,7 @@
 //! Row blocks: rows, one 4-byte offset a row, a 4-byte row count, little endian.
 
 use super::schema::{self, Column, Type};
-use super::varint::{self, Number};
-use super::{Answer, Refusal, MAX_BYTES, MAX_ROWS};
+use super::{varint, Answer, Refusal, MAX_BYTES, MAX_ROWS};
 
 /// An accepted block.
 pub struct Block<'a> {
@@ -151,13 +150,12 @@ fn field_end(kind: Type, bytes: &[u8], place: usize) -> Option<usize> {
 
 /// The nanoseconds at the place, and the place after them.
 fn nanoseconds(bytes: &[u8], place: usize) -> Option<(u32, usize)> {
-    let nanos = varint::read(bytes, place).ok()?;
-    (nanos.value <= 999_999).then_some((nanos.value, nanos.next))
+    varint::read(bytes, place).ok().filter(|&(nanos, _)| nanos <= 999_999)
 }
 
 /// Start and length of text, bytes or a large DECIMAL, whose length lies at the place.
 fn counted(kind: Type, bytes: &[u8], place: usize) -> Option<(usize, usize)> {
-    let Number { value: length, next: start, .. } = varint::read(bytes, place).ok()?;
+    let (length, start) = varint::read(bytes, place).ok()?;
     let empty_decimal = length == 0 && matches!(kind, Type::Decimal { .. });
     if length as usize > bytes.len() - start || empty_decimal {
         return None;

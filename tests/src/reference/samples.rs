@@ -1,7 +1,7 @@
 //! The files of samples/ hold what samples/README.md says.
 
 use super::bitmap::Bitmap;
-use super::{buckets, rows, Answer};
+use super::{buckets, rows, schema, Answer};
 use std::fs;
 use std::path::Path;
 
@@ -55,4 +55,40 @@ fn bucket() {
         _ => None,
     };
     assert_eq!([0, 1, 2].map(text), [Some(b"north".to_vec()), None, None]);
+}
+
+/// An answer by the bytes of its place.
+fn by_bytes(answer: Answer, bytes: &[u8]) -> (Answer, &[u8]) {
+    match answer {
+        Answer::Place { start, length } => {
+            (Answer::Place { start: 0, length }, &bytes[start..start + length])
+        }
+        _ => (answer, &[]),
+    }
+}
+
+/// Four bytes more for each number: count, precision and length; two lengths; count, children, length
+/// and entries.
+#[test]
+fn padded_sizes() {
+    let more =
+        |name| sample(&format!("padded.{name}")).len() - sample(&format!("readings.{name}")).len();
+    assert_eq!(["schema", "block", "bucket"].map(more), [3 * 4, 2 * 4, 4 * 4]);
+}
+
+#[test]
+fn padded_answers() {
+    let [shortest, padded] = ["readings", "padded"]
+        .map(|name| ["schema", "block", "bucket"].map(|kind| sample(&format!("{name}.{kind}"))));
+    assert_eq!(schema::read(&padded[0]), schema::read(&shortest[0]));
+    for (row, column) in (0..3).flat_map(|row| (0..4).map(move |column| (row, column))) {
+        let [first, second] = [&shortest, &padded].map(|[schema, block, bucket]| {
+            let field = rows::field(schema, block, row, column).unwrap();
+            let value = buckets::field(schema, 3, bucket, row, column).unwrap();
+            (by_bytes(field, block), by_bytes(value, bucket))
+        });
+        assert_eq!(second, first, "row {row}, column {column}");
+    }
+    let place = Answer::Place { start: 20, length: 5 };
+    assert_eq!(rows::field(&padded[0], &padded[1], 0, 3), Ok(place));
 }

@@ -108,10 +108,10 @@ impl Reader<'_> {
     }
 
     fn number(&mut self, low: u32, high: u32) -> Result<u32, Refusal> {
-        let number = varint::read(self.bytes, self.place).map_err(|_| 20u32)?;
-        self.place = number.next;
-        if (low..=high).contains(&number.value) {
-            Ok(number.value)
+        let (value, place) = varint::read(self.bytes, self.place).map_err(|_| 20u32)?;
+        self.place = place;
+        if (low..=high).contains(&value) {
+            Ok(value)
         } else {
             Err(20)
         }

@@ -12,6 +12,33 @@ pub enum Fault {
     IllFormed,
 }
 
+/// The number at the place, and the place after it.
+pub fn read(bytes: &[u8], place: usize) -> Result<(u32, usize), Fault> {
+    #[cfg(test)]
+    if old::in_force() {
+        return old::read(bytes, place);
+    }
+    let number = read_any_form(bytes, place);
+    #[cfg(test)]
+    old::note(bytes, place, number);
+    number
+}
+
+fn read_any_form(bytes: &[u8], place: usize) -> Result<(u32, usize), Fault> {
+    let mut value = 0;
+    for i in 0..5 {
+        let &byte = bytes.get(place + i).ok_or(Fault::CutShort)?;
+        if i == 4 && byte > 0x0F {
+            return Err(Fault::IllFormed);
+        }
+        value |= u32::from(byte & 0x7F) << (7 * i);
+        if byte < 0x80 {
+            return Ok((value, place + i + 1));
+        }
+    }
+    Err(Fault::IllFormed)
+}
+
 /// A number that stands in bytes.
 #[derive(Clone, Copy, Debug, PartialEq, Eq)]
 pub struct Number {
@@ -22,29 +49,13 @@ pub struct Number {
     pub shortest: bool,
 }
 
-/// The number at the place.
-pub fn read(bytes: &[u8], place: usize) -> Result<Number, Fault> {
-    #[cfg(test)]
-    if old::in_force() {
-        return old::read_marked(bytes, place);
-    }
-    let number = read_any_form(bytes, place);
-    #[cfg(test)]
-    old::note(&number);
-    number
+/// The number at the place, with its mark.
+pub fn read_marked(bytes: &[u8], place: usize) -> Result<Number, Fault> {
+    let (value, next) = read(bytes, place)?;
+    Ok(Number { value, next, shortest: is_shortest(&bytes[place..next]) })
 }
 
-fn read_any_form(bytes: &[u8], place: usize) -> Result<Number, Fault> {
-    let mut value = 0;
-    for i in 0..5 {
-        let &byte = bytes.get(place + i).ok_or(Fault::CutShort)?;
-        if i == 4 && byte > 0x0F {
-            return Err(Fault::IllFormed);
-        }
-        value |= u32::from(byte & 0x7F) << (7 * i);
-        if byte < 0x80 {
-            return Ok(Number { value, next: place + i + 1, shortest: i == 0 || byte > 0 });
-        }
-    }
-    Err(Fault::IllFormed)
+/// Whether a number's bytes are one byte, or end in one that is not 0.
+fn is_shortest(number: &[u8]) -> bool {
+    number.len() == 1 || !number.ends_with(&[0])
 }

@@ -197,7 +197,7 @@ pub unsafe extern "C" fn bv_number_read(
     }
     let behind = if planted("reads-behind-the-bytes") && len > 0 { 5 } else { 0 };
     let bytes = from_raw_parts(bytes, len + behind);
-    let mut read = Read::from(varint::read(bytes, 0));
+    let mut read = Read::from(varint::read_marked(bytes, 0));
     if let Some((_, fault)) = READ_FAULTS.iter().find(|(name, _)| planted(name)) {
         let before = Read { found: *found, value: *value, used: *used, shortest: *shortest };
         fault(bytes, before, &mut read);

@@ -81,7 +81,7 @@ struct Walker<'a> {
 impl<'a> Walker<'a> {
     fn number(&mut self, role: Role) -> Option<usize> {
         let start = self.place;
-        match varint::read(self.bytes, start) {
+        match varint::read_marked(self.bytes, start) {
             Ok(number) => {
                 self.place = number.next;
                 let spot = Spot { role, start, end: number.next, shortest: number.shortest };

@@ -1,7 +1,7 @@
 //! The rule of 01 before request (iv): a number is no longer than needed. For tests alone, which ask
 //! every question by both rules.
 
-use super::{Fault, Number};
+use super::{is_shortest, Fault};
 use std::cell::Cell;
 
 thread_local! {
@@ -26,10 +26,6 @@ pub fn read(bytes: &[u8], place: usize) -> Result<(u32, usize), Fault> {
     Err(Fault::IllFormed)
 }
 
-pub fn read_marked(bytes: &[u8], place: usize) -> Result<Number, Fault> {
-    read(bytes, place).map(|(value, next)| Number { value, next, shortest: true })
-}
-
 /// Whether this thread reads by the old rule.
 pub fn in_force() -> bool {
     IN_FORCE.get()
@@ -44,8 +40,8 @@ pub fn ask<T>(question: impl FnOnce() -> T) -> T {
 }
 
 /// Takes note of a padded number.
-pub fn note(number: &Result<Number, Fault>) {
-    if matches!(number, Ok(Number { shortest: false, .. })) {
+pub fn note(bytes: &[u8], place: usize, number: Result<(u32, usize), Fault>) {
+    if number.is_ok_and(|(_, next)| !is_shortest(&bytes[place..next])) {
         PADDED.set(true);
     }
 }
