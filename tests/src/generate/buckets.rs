@@ -254,7 +254,7 @@ fn lay(draft: &Draft, schema: &mut Numbers, bucket: &mut Numbers) -> Case {
 /// A sound bucket and what it holds.
 pub fn sound_with_content(random: &mut Random) -> (Case, Content) {
     let draft = any_draft(random);
-    let [mut schema, mut bucket] = [(); 2].map(|_| Numbers::any(random));
+    let [mut schema, mut bucket] = Numbers::pair(random);
     let case = lay(&draft, &mut schema, &mut bucket);
     let cells = draft.drafts.into_iter().map(|column| column.cells);
     (case, draft.columns.into_iter().zip(cells).collect())
@@ -271,7 +271,8 @@ pub fn twins(random: &mut Random) -> [Case; 2] {
 /// A bucket damaged once or twice, mostly towards a certain refusal.
 pub fn damaged(random: &mut Random) -> Case {
     let mut draft = any_draft(random);
-    let mut schema = lay_schema(&draft.columns, &mut Numbers::any(random));
+    let [mut schema, mut numbers] = Numbers::pair(random);
+    let mut schema = lay_schema(&draft.columns, &mut schema);
     let mut rows = draft.rows as u32;
     let mut after = Vec::new();
     for _ in 0..if random.once_in(3) { 2 } else { 1 } {
@@ -294,7 +295,6 @@ pub fn damaged(random: &mut Random) -> Case {
             _ => after.push(After::Bytes),
         }
     }
-    let mut numbers = Numbers::any(random);
     let mut bucket = draft.bytes(&mut numbers);
     for damage in after {
         match damage {

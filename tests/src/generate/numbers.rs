@@ -153,6 +153,15 @@ impl Numbers {
         }
     }
 
+    /// For a schema and for what comes with it. Half of the time every number of both is shortest.
+    pub fn pair(random: &mut Random) -> [Numbers; 2] {
+        if random.once_in(2) {
+            [Numbers::shortest(), Numbers::shortest()]
+        } else {
+            [Numbers::any(random), Numbers::any(random)]
+        }
+    }
+
     pub fn push(&mut self, value: u32, out: &mut Vec<u8>) {
         let fewest = fewest(value);
         let count = match self.style {

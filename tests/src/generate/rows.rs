@@ -155,7 +155,7 @@ pub fn filled(
 /// A sound block and what it holds.
 pub fn sound_with_content(random: &mut Random) -> (Case, Vec<Column>, Vec<Row>) {
     let (columns, rows) = any_rows(random);
-    let [mut schema, mut block] = [(); 2].map(|_| Numbers::any(random));
+    let [mut schema, mut block] = Numbers::pair(random);
     (lay(&columns, &rows, &mut schema, &mut block), columns, rows)
 }
 
@@ -170,8 +170,9 @@ pub fn twins(random: &mut Random) -> [Case; 2] {
 /// A block damaged once or twice, mostly towards a certain refusal.
 pub fn damaged(random: &mut Random) -> Case {
     let (columns, rows) = any_rows(random);
-    let mut draft = lay_rows(&columns, &rows, &mut Numbers::any(random));
-    let mut schema = lay_schema(&columns, &mut Numbers::any(random));
+    let [mut schema, mut block] = Numbers::pair(random);
+    let mut draft = lay_rows(&columns, &rows, &mut block);
+    let mut schema = lay_schema(&columns, &mut schema);
     let mut after = Vec::new();
     for _ in 0..if random.once_in(3) { 2 } else { 1 } {
         match random.below(14) {
@@ -180,7 +181,7 @@ pub fn damaged(random: &mut Random) -> Case {
             2 => break_count(random, &mut draft),
             3..=4 => break_offsets(random, &mut draft),
             5 => break_end(random, &mut draft),
-            6..=9 => break_row(random, &mut draft),
+            6..=9 => break_row(random, &mut draft, &mut block),
             10..=11 => break_number(random, &mut draft),
             12 if random.once_in(500) => after.push(After::TooLong),
             _ => after.push(After::Bytes),
@@ -237,7 +238,7 @@ fn break_end(random: &mut Random, draft: &mut Draft) {
 }
 
 /// Damage in one row's bytes; its offsets are set anew, mostly.
-fn break_row(random: &mut Random, draft: &mut Draft) {
+fn break_row(random: &mut Random, draft: &mut Draft, numbers: &mut Numbers) {
     if draft.rows.is_empty() {
         return;
     }
@@ -255,7 +256,7 @@ fn break_row(random: &mut Random, draft: &mut Draft) {
             }
         }
     }
-    let mut laid = lay_row(&draft.columns, &row, &mut Numbers::any(random));
+    let mut laid = lay_row(&draft.columns, &row, numbers);
     let used = draft.columns.len();
     if spare && !used.is_multiple_of(8) {
         laid.bytes[used / 8] |= 1 << random.between(used % 8, 7);

@@ -5,7 +5,8 @@ use super::places::{self, Role, Spot, Walk};
 use super::{planted, set};
 use crate::ffi::numbers::Read;
 use crate::generate::numbers::fewest;
-use crate::reference::schema::{self, Column};
+use crate::generate::schema::schema_bytes;
+use crate::reference::schema::{self, Column, Type};
 use crate::reference::{buckets, rows, varint, Answer};
 use std::borrow::Cow;
 use std::slice::from_raw_parts;
@@ -18,9 +19,11 @@ pub fn faults() -> Vec<(&'static str, String)> {
     for (name, roles, _) in REFUSED {
         faults.extend(groups(roles).iter().map(|group| (*group, *name)));
     }
+    for (name, group) in MENDED {
+        faults.push((group, name));
+    }
     for group in ["rows", "buckets"] {
-        faults.extend(MENDED.map(|name| (group, name)));
-        faults.push((group, AFTER_FIRST_BYTE));
+        faults.extend([(group, AFTER_FIRST_BYTE), (group, EMPTY_DECIMAL)]);
     }
     faults.push(("buckets", CUT_SHORT_AT_THE_END));
     faults.into_iter().map(|(group, name)| (group, name.to_string())).collect()
@@ -242,8 +245,15 @@ const SCHEMA_ROLES: [Role; 4] = [Role::Columns, Role::Length, Role::Precision, R
 const BUCKET_ROLES: [Role; 6] =
     [Role::BucketColumns, Role::Children, Role::Entries, Role::Constant, Role::Entry, Role::Plain];
 
-/// Numbers that are ill-formed, and read all the same.
-const MENDED: [&str; 2] = ["wraps-a-fifth-byte", "takes-a-sixth-byte"];
+/// Numbers that are ill-formed, and read all the same. A sixth byte in a row would move all offsets.
+const MENDED: [(&str, &str); 5] = [
+    ("wraps-a-fifth-byte-in-schemas", "rows"),
+    ("wraps-a-fifth-byte-in-rows", "rows"),
+    ("wraps-a-fifth-byte-in-buckets", "buckets"),
+    ("takes-a-sixth-byte-in-schemas", "rows"),
+    ("takes-a-sixth-byte-in-buckets", "buckets"),
+];
+const EMPTY_DECIMAL: &str = "padded-empty-decimal-accepted";
 const AFTER_FIRST_BYTE: &str = "place-after-the-first-byte-of-its-length";
 const CUT_SHORT_AT_THE_END: &str = "five-high-bits-at-the-end-cut-short";
 
@@ -251,8 +261,9 @@ const CUT_SHORT_AT_THE_END: &str = "five-high-bits-at-the-end-cut-short";
 fn active() -> bool {
     static ACTIVE: OnceLock<bool> = OnceLock::new();
     *ACTIVE.get_or_init(|| {
-        let mut names = REFUSED.iter().map(|(name, _, _)| *name).chain(MENDED);
-        names.any(planted) || planted(AFTER_FIRST_BYTE) || planted(CUT_SHORT_AT_THE_END)
+        let others = [AFTER_FIRST_BYTE, CUT_SHORT_AT_THE_END, EMPTY_DECIMAL];
+        let mended = MENDED.iter().map(|(name, _)| *name);
+        REFUSED.iter().map(|(name, _, _)| *name).chain(mended).chain(others).any(planted)
     })
 }
 
@@ -265,14 +276,15 @@ fn refused(walk: &Walk) -> Option<u32> {
     walk.spots.iter().find(hit).map(|spot| spot.role.refusal())
 }
 
-/// The bytes with their first ill-formed number made sound, if that fault is planted.
-fn mended<'a>(bytes: &'a [u8], walk: &Walk) -> Cow<'a, [u8]> {
+/// The bytes with their first ill-formed number made sound, if that fault is planted in such bytes.
+fn mended<'a>(bytes: &'a [u8], walk: &Walk, part: &str) -> Cow<'a, [u8]> {
     let Some(place) = walk.ill_formed else { return bytes.into() };
     let fifth = place + 4;
     let mut out = bytes.to_vec();
-    if planted("wraps-a-fifth-byte") && bytes[fifth] < 0x80 {
+    if planted(&format!("wraps-a-fifth-byte-in-{part}")) && bytes[fifth] < 0x80 {
         out[fifth] &= 0x0F;
-    } else if planted("takes-a-sixth-byte") && bytes.get(fifth + 1) == Some(&0) {
+    }
+    if planted(&format!("takes-a-sixth-byte-in-{part}")) && bytes.get(fifth + 1) == Some(&0) {
         out[fifth] &= 0x7F;
         out.remove(fifth + 1);
     }
@@ -280,7 +292,21 @@ fn mended<'a>(bytes: &'a [u8], walk: &Walk) -> Cow<'a, [u8]> {
 }
 
 fn mended_schema(bytes: &[u8]) -> Cow<'_, [u8]> {
-    mended(bytes, &places::of_schema(bytes))
+    mended(bytes, &places::of_schema(bytes), "schemas")
+}
+
+/// The schema by which a block or bucket is judged: with BYTES for a large DECIMAL where those of no
+/// bytes are all padded, if that fault is planted.
+fn judging_schema<'a>(schema: &'a [u8], columns: &[Column], walk: &Walk) -> Cow<'a, [u8]> {
+    let padded = !walk.empty_decimals.is_empty() && !walk.empty_decimals.contains(&true);
+    if !planted(EMPTY_DECIMAL) || !padded {
+        return mended_schema(schema);
+    }
+    let mut columns = columns.to_vec();
+    for column in columns.iter_mut().filter(|column| places::counted(column.kind)) {
+        column.kind = Type::Bytes;
+    }
+    schema_bytes(&columns).into()
 }
 
 /// A place that starts one byte after the first byte of its length, if that fault is planted.
@@ -307,7 +333,8 @@ fn ask_block<T>(
 ) -> Result<(T, Walk), u32> {
     let columns = self::schema(schema)?;
     let walk = places::of_block(&columns, block);
-    let answer = ask(&mended_schema(schema), &mended(block, &walk))?;
+    let schema = judging_schema(schema, &columns, &walk);
+    let answer = ask(&schema, &mended(block, &walk, "rows"))?;
     refused(&walk).map_or(Ok((answer, walk)), Err)
 }
 
@@ -338,7 +365,8 @@ fn ask_bucket<T>(
     let walk = places::of_bucket(&columns, rows, bucket);
     let high = walk.ill_formed.is_some_and(|place| bucket[place + 4] >= 0x80);
     let at_the_end = walk.ill_formed.is_some_and(|place| place + 5 == bucket.len());
-    let answer = match ask(&mended_schema(schema), &mended(bucket, &walk)) {
+    let schema = judging_schema(schema, &columns, &walk);
+    let answer = match ask(&schema, &mended(bucket, &walk, "buckets")) {
         Err(30 | 32) if planted(CUT_SHORT_AT_THE_END) && high && at_the_end => Err(31),
         answer => answer,
     }?;

@@ -47,6 +47,8 @@ pub struct Walk {
     pub spots: Vec<Spot>,
     /// Where an ill-formed number stands, which ended the walk.
     pub ill_formed: Option<usize>,
+    /// Whether each large DECIMAL of no bytes has a shortest length.
+    pub empty_decimals: Vec<bool>,
 }
 
 pub fn of_schema(bytes: &[u8]) -> Walk {
@@ -65,7 +67,7 @@ pub fn of_bucket(columns: &[Column], rows: u32, bucket: &[u8]) -> Walk {
 }
 
 fn walk(bytes: &[u8], go: impl FnOnce(&mut Walker) -> Option<()>) -> Walk {
-    let walk = Walk { spots: Vec::new(), ill_formed: None };
+    let walk = Walk { spots: Vec::new(), ill_formed: None, empty_decimals: Vec::new() };
     let mut walker = Walker { bytes, place: 0, walk };
     go(&mut walker);
     walker.walk
@@ -142,8 +144,14 @@ impl<'a> Walker<'a> {
 
     /// A value of this width, or one with a length.
     fn value(&mut self, kind: Type, width: usize, role: Role) -> Option<()> {
-        let width = if counted(kind) { self.number(role)? } else { width };
-        self.skip(width).map(|_| ())
+        if !counted(kind) {
+            return self.skip(width).map(|_| ());
+        }
+        let length = self.number(role)?;
+        if length == 0 && matches!(kind, Type::Decimal { .. }) {
+            self.walk.empty_decimals.extend(self.walk.spots.last().map(|spot| spot.shortest));
+        }
+        self.skip(length).map(|_| ())
     }
 
     fn values(&mut self, kind: Type, count: usize, role: Role) -> Option<()> {
@@ -195,7 +203,7 @@ impl<'a> Walker<'a> {
 }
 
 /// Whether values of this type have a length.
-fn counted(kind: Type) -> bool {
+pub fn counted(kind: Type) -> bool {
     match kind {
         Type::Decimal { precision, .. } => precision > 18,
         _ => (8..=13).contains(&kind.id()),
