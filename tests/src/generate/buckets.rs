@@ -1,14 +1,16 @@
 //! Buckets over random schemas, row counts and encodings, sound and damaged towards each refusal.
 
-use super::numbers::{all_forms, bad_varint, damage_number, Number, Numbers};
+use super::numbers::{all_forms, bad_varint, damage_number, Around, Number, Numbers};
 use super::schema::{
     bad_boolean, bad_counted, bad_nanoseconds, bits_width, columns, damaged_schema, lay_schema,
     value, Value,
 };
 use super::{damage_bytes, Random};
 use crate::reference::schema::{Column, Type};
+use std::sync::OnceLock;
 
 /// A schema, a number of rows and a bucket.
+#[derive(Clone)]
 pub struct Case {
     pub schema: Vec<u8>,
     pub rows: u32,
@@ -465,6 +467,7 @@ fn add_null(random: &mut Random, draft: &mut Draft) {
 
 /// Buckets at the largest sizes, and one past them; then each kind of number in each form.
 pub fn edge(number: u64) -> Option<Case> {
+    static EDGES: OnceLock<Vec<Case>> = OnceLock::new();
     let bytes_column = vec![1, 13, 0];
     let case = |schema, rows, bucket| Some(Case { schema, rows, bucket });
     match number {
@@ -472,7 +475,7 @@ pub fn edge(number: u64) -> Option<Case> {
         1 => case(vec![1, 1, 0], 65_537, [vec![1, 0, 0, 0], vec![7; 65_537]].concat()),
         2 => case(bytes_column, 1, one_value(16_777_216)),
         3 => case(bytes_column, 1, one_value(16_777_217)),
-        _ => number_edges().into_iter().nth(number as usize - 4),
+        _ => EDGES.get_or_init(number_edges).get(number as usize - 4).cloned(),
     }
 }
 
@@ -481,7 +484,7 @@ fn number_edges() -> Vec<Case> {
     let tiny: &[u8] = &[1, 1, 0];
     let text: &[u8] = &[1, 10, 0];
     let decimal: &[u8] = &[1, 14, 0, 19, 0];
-    let buckets: [(&[u8], &[u8], u32, &[u8]); 17] = [
+    let buckets: [Around; 17] = [
         (tiny, &[], 1, &[0, 0, 0, 7]),
         (tiny, &[], 2, &[0, 0, 0, 7]),
         (tiny, &[1], 0, &[0, 0, 7]),

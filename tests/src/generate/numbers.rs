@@ -23,6 +23,9 @@ pub fn push_any_form(random: &mut Random, value: u32, out: &mut Vec<u8>) {
     push_form(value, count, out);
 }
 
+/// A schema, and a number that stands between other bytes.
+pub type Around<'a> = (&'a [u8], &'a [u8], u32, &'a [u8]);
+
 /// The number in each of its forms, between other bytes.
 pub fn all_forms(before: &[u8], value: u32, behind: &[u8]) -> Vec<Vec<u8>> {
     let form = |count| {

@@ -1,6 +1,6 @@
 //! Row blocks over random schemas, sound and damaged towards each refusal.
 
-use super::numbers::{all_forms, bad_varint, damage_number, push_any_form, Numbers};
+use super::numbers::{all_forms, bad_varint, damage_number, push_any_form, Around, Numbers};
 use super::schema::{
     bad_boolean, bad_counted, bad_nanoseconds, bits_width, columns, damaged_schema, lay_schema,
     value, Value,
@@ -9,8 +9,10 @@ use super::{damage_bytes, Random};
 use crate::reference::schema::{Column, Type};
 use std::mem::take;
 use std::ops::Range;
+use std::sync::OnceLock;
 
 /// A schema and a block.
+#[derive(Clone)]
 pub struct Case {
     pub schema: Vec<u8>,
     pub block: Vec<u8>,
@@ -307,6 +309,7 @@ fn bad_field(random: &mut Random, kind: Type) -> Option<Vec<u8>> {
 
 /// Blocks at the largest sizes, and one past them; then each kind of number in each form.
 pub fn edge(number: u64) -> Option<Case> {
+    static EDGES: OnceLock<Vec<Case>> = OnceLock::new();
     let tiny = vec![1, 1, 1];
     let bytes_column = vec![1, 13, 0];
     let case = |schema, block| Some(Case { schema, block });
@@ -315,7 +318,7 @@ pub fn edge(number: u64) -> Option<Case> {
         1 => case(tiny, all_null_rows(65_537)),
         2 => case(bytes_column, one_field(16_777_216)),
         3 => case(bytes_column, one_field(16_777_217)),
-        _ => number_edges().into_iter().nth(number as usize - 4),
+        _ => EDGES.get_or_init(number_edges).get(number as usize - 4).cloned(),
     }
 }
 
@@ -332,7 +335,7 @@ fn number_edges() -> Vec<Case> {
         (&[1, 14, 0, 5], 6, &[]),
         (&[1, 16, 0], 9, &[]),
     ];
-    let rows: [(&[u8], &[u8], u32, &[u8]); 8] = [
+    let rows: [Around; 8] = [
         (&[1, 10, 0], &[0], 0, &[]),
         (&[1, 10, 0], &[0], 1, b"A"),
         (&[1, 10, 0], &[0], 2, b"A"),

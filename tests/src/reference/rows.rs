@@ -282,20 +282,25 @@ mod tests {
     fn padded_fields() {
         let text: &[u8] = &[1, 10, 0];
         let decimal: &[u8] = &[1, 14, 0, 19, 0];
-        let place = |start, length| Ok(Answer::Place { start, length });
-        let table: [(&[u8], &[u8], Result<Answer, Refusal>); 9] = [
-            (text, &[0, 0x80, 0x80, 0], place(4, 0)),
-            (text, &[0, 0x80, 0x80, 0x80, 0x80, 0], place(6, 0)),
-            (text, &[0, 0x82, 0, 1, 2], place(3, 2)),
-            (text, &[0, 0x83, 0, 1, 2], Err(24)),
-            (text, &[0, 0x82, 0x80, 0x80, 0x80, 0x10, 1, 2], Err(24)),
-            (text, &[0, 0x82, 0x80, 0x80, 0x80, 0x80, 0, 1, 2], Err(24)),
-            (text, &[0, 0x82, 0x80], Err(24)),
-            (decimal, &[0, 0x81, 0x80, 0x80, 0x80, 0, 7], place(6, 1)),
-            (decimal, &[0, 0x80, 0], Err(24)),
+        let places: [(&[u8], &[u8], usize, usize); 4] = [
+            (text, &[0, 0x80, 0x80, 0], 4, 0),
+            (text, &[0, 0x80, 0x80, 0x80, 0x80, 0], 6, 0),
+            (text, &[0, 0x82, 0, 1, 2], 3, 2),
+            (decimal, &[0, 0x81, 0x80, 0x80, 0x80, 0, 7], 6, 1),
         ];
-        for (schema, row, answer) in table {
-            assert_eq!(field(schema, &block(&[row]), 0, 0), answer, "{row:?}");
+        for (schema, row, start, length) in places {
+            let place = Answer::Place { start, length };
+            assert_eq!(field(schema, &block(&[row]), 0, 0), Ok(place), "{row:?}");
+        }
+        let bad: [(&[u8], &[u8]); 5] = [
+            (text, &[0, 0x83, 0, 1, 2]),
+            (text, &[0, 0x82, 0x80, 0x80, 0x80, 0x10, 1, 2]),
+            (text, &[0, 0x82, 0x80, 0x80, 0x80, 0x80, 0, 1, 2]),
+            (text, &[0, 0x82, 0x80]),
+            (decimal, &[0, 0x80, 0]),
+        ];
+        for (schema, row) in bad {
+            assert_eq!(check(schema, &block(&[row])), Err(24), "{row:?}");
         }
     }
 

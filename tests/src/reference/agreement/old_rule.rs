@@ -41,8 +41,8 @@ impl Outcomes {
     /// The generators reach every outcome, and often.
     fn enough(&self) {
         let Outcomes { both, only_today, other_refusal, padded } = *self;
-        assert!(both > CASES / 10 && only_today > CASES / 10 && padded > CASES / 5);
-        assert!(other_refusal > CASES / 100);
+        assert!(both > CASES / 10 && only_today > CASES / 10 && other_refusal > CASES / 50);
+        assert!((CASES / 5..CASES / 2).contains(&padded));
     }
 }
 
