@@ -295,8 +295,8 @@ fn mended_schema(bytes: &[u8]) -> Cow<'_, [u8]> {
     mended(bytes, &places::of_schema(bytes), "schemas")
 }
 
-/// The schema by which a block or bucket is judged: with BYTES for a large DECIMAL where those of no
-/// bytes are all padded, if that fault is planted.
+/// The schema by which a block or bucket is judged: with BYTES for every type that has lengths where
+/// all large DECIMALs of no bytes are padded, if that fault is planted.
 fn judging_schema<'a>(schema: &'a [u8], columns: &[Column], walk: &Walk) -> Cow<'a, [u8]> {
     let padded = !walk.empty_decimals.is_empty() && !walk.empty_decimals.contains(&true);
     if !planted(EMPTY_DECIMAL) || !padded {
