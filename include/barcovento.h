@@ -23,6 +23,9 @@
  *   12  positions not strictly rising or too big 35  null in a NOT NULL column
  *   13  written form longer than the output      36  bytes left over
  *                                                37  bucket too long or over 65,536 rows
+ *
+ *   40  store: slot number over 63               42  store: its own bytes are not forms lying apart,
+ *   41  store: fetch or drop of an empty slot        or a saved store that is bad or does not fit
  */
 #ifndef BARCOVENTO_H
 #define BARCOVENTO_H
@@ -97,6 +100,58 @@ uint32_t bv_bitmap_difference(const uint8_t *a, size_t a_len, const uint8_t *b, 
                               uint8_t *out, size_t room, size_t *length);
 uint32_t bv_bitmap_symmetric_difference(const uint8_t *a, size_t a_len, const uint8_t *b,
                                         size_t b_len, uint8_t *out, size_t room, size_t *length);
+
+/*
+ * A store: up to 64 numbered bitmaps, each as its one written form, in a lent buffer of any length.
+ *
+ * A lent directory says where they lie: for slot i, directory[2 * i] is where its form starts in the
+ * buffer and directory[2 * i + 1] its length. A length of 0 is an empty slot, whatever its start says.
+ * A directory has BV_STORE_DIRECTORY numbers; all zeros is the empty store. The buffer's bytes outside
+ * the forms mean nothing.
+ *
+ * Put, fetch, drop and save judge the whole store first. 42: `numbers` is not BV_STORE_DIRECTORY, or a
+ * slot that is not empty does not lie within the buffer, is not accepted, is accepted but is not the
+ * written form of its set, or overlaps another.
+ *
+ * Put and load may move forms: after them the slots hold what is said below, and where forms lie, the
+ * starts of empty slots and all bytes of the buffer outside forms are free. A refused call leaves
+ * buffer, directory and output as they were.
+ */
+enum {
+    BV_STORE_DIRECTORY = 128
+};
+
+/*
+ * The slot holds the bitmap's written form, in place of what it held; the other slots hold what they
+ * held. Refusals 40, 42, the bitmap's 1 to 11, then 13: exactly if the forms in the other slots and
+ * the new one are together longer than the buffer. The bitmap does not lie in the buffer.
+ */
+uint32_t bv_store_put(uint8_t *buffer, size_t len, uint32_t *directory, size_t numbers,
+                      uint32_t slot, const uint8_t *bitmap, size_t bitmap_len);
+
+/* The slot's form into out: *length is its length, the rest of out is unchanged. Refusals 40, 42, 41, 13. */
+uint32_t bv_store_fetch(const uint8_t *buffer, size_t len, const uint32_t *directory, size_t numbers,
+                        uint32_t slot, uint8_t *out, size_t room, size_t *length);
+
+/* The slot is empty: its length becomes 0, all else stays. Refusals 40, 42, 41. */
+uint32_t bv_store_drop(const uint8_t *buffer, size_t len, uint32_t *directory, size_t numbers,
+                       uint32_t slot);
+
+/*
+ * The whole store as bytes: 64 entries in the order of the slots, each a length in groups of seven
+ * bits, shortest, and then the form's bytes; 00 for an empty slot. *length is their length, the rest
+ * of out is unchanged. Refusals 42, 13.
+ */
+uint32_t bv_store_save(const uint8_t *buffer, size_t len, const uint32_t *directory, size_t numbers,
+                       uint8_t *out, size_t room, size_t *length);
+
+/*
+ * Each slot holds its entry of the saved bytes. What the store held before is not judged. Refusal 42:
+ * `numbers` is not BV_STORE_DIRECTORY; the bytes are not exactly 64 such entries, of written forms
+ * alone, with nothing behind; or the forms are together longer than the buffer.
+ */
+uint32_t bv_store_load(uint8_t *buffer, size_t len, uint32_t *directory, size_t numbers,
+                       const uint8_t *saved, size_t saved_len);
 
 /*
  * Numbers in groups of seven bits, low group first: the high bit is set on all bytes but the last.
