@@ -1,0 +1,76 @@
+-- What put and drop of a slot do to the answers of that slot and of the others, and when a put is refused for room.
+-- They hold for a whole store and for each crew's own: es are the entries before the call, es′ those after it.
+-- Assumes nothing.
+use mathlib.Core.Path.{_≡_, refl, sym, _∙_}
+use mathlib.Core.Logic.{⊎-elim}
+use mathlib.Core.Bool.{Bool, true, false}
+use mathlib.Core.List.{List, []}
+use Prim.Native.Nat.{ℕ, _≤_, _<_}
+use native.Mathlib.Omega.{arith}
+use borrow.Author.Tests.{le-leb, lt-leb}
+use lib.ListN.{length, getD, set, length-set, List·getD-eq-default}
+use lib.Seq.{getD-set-same, getD-set-other}
+use Rattle.common.specs.Outcome.{Outcome, refused, found, need}
+use Rattle.bitmap_spec.specs.Judge.{judge}
+use Rattle.bitmap_spec.specs.Form.{formOf, form}
+use Rattle.bitmap_spec.specs.Output.{placed}
+use Rattle.bitmap_spec.proofs.Window.{below-or}
+use Rattle.store_spec.specs.Store.{some, total, putIn, fetchIn, dropIn}
+
+pub found-is : {A : Type 0} (x y : A) → found x ≡ found y → x ≡ y
+found-is x y e = cc
+
+pub need-found : {A : Type 0} (b : Bool) (n : ℕ) (o : Outcome A) (a : A) → need b n o ≡ found a
+    → (b ≡ true) × (o ≡ found a)
+unfolding need
+need-found true n o a e = (refl, e)
+need-found false n o a e = absurd (let z : _≡_ {A = ℕ} 0 1 = cc in omega arith)
+
+form-some : (l : List ℕ) → some (form l) ≡ true
+unfolding form formOf
+form-some l = refl
+
+-- ---- put
+module _ (room k : ℕ) (bitmap l : List ℕ) (es : List (List ℕ)) (judged : judge bitmap ≡ found l) where
+  -- "refused for room exactly if the forms in the other slots plus the new one are longer than the buffer"
+  pub put-full : room < total (set es k (form l)) → putIn room k bitmap es ≡ refused 13
+  unfolding putIn need
+  put-full h = rw (judged, lt-leb _ _ h)
+
+  pub put-fits : total (set es k (form l)) ≤ room → putIn room k bitmap es ≡ found (set es k (form l))
+  unfolding putIn need
+  put-fits h = rw (judged, le-leb _ _ h)
+
+  module _ (es′ : List (List ℕ)) (done : putIn room k bitmap es ≡ found es′) where
+    put-is : es′ ≡ set es k (form l)
+    put-is =
+        ⊎-elim (λ h. absurd (let e = put-full h in let z : _≡_ {A = ℕ} 0 1 = cc in omega arith))
+        (λ h. found-is es′ (set es k (form l)) (sym done ∙ put-fits h)) (below-or room (total (set es k (form l))))
+
+    -- "put stores the written form"
+    pub put-fetch : (out : ℕ) → k < length es → fetchIn out k es′ ≡ placed (form l) out
+    unfolding fetchIn need
+    put-fetch out h = rw (put-is, getD-set-same es k (form l) [] h, form-some l)
+
+    -- "other slots read as before"
+    pub put-other : (out j : ℕ) → (j ≡ k → ⊥) → fetchIn out j es′ ≡ fetchIn out j es
+    unfolding fetchIn
+    put-other out j d = rw (put-is, getD-set-other es k j (form l) [] d)
+
+-- ---- drop
+module _ (k : ℕ) (es es′ : List (List ℕ)) (done : dropIn k es ≡ found es′) where
+  drop-is : (some (getD es k []) ≡ true) × (es′ ≡ set es k [])
+  unfolding dropIn
+  drop-is = let a = need-found (some (getD es k [])) 41 _ es′ done in (a .0, sym (found-is _ es′ (a .1)))
+
+  pub drop-fetch : (out : ℕ) → fetchIn out k es′ ≡ refused 41
+  unfolding fetchIn need
+  drop-fetch out =
+      let e : getD (set es k []) k [] ≡ [] =
+      ⊎-elim (λ h. getD-set-same es k [] [] h)
+      (λ h. List·getD-eq-default (set es k []) [] {n = k} (rw length-set h)) (below-or k (length es)) in
+      rw (drop-is .1, e)
+
+  pub drop-other : (out j : ℕ) → (j ≡ k → ⊥) → fetchIn out j es′ ≡ fetchIn out j es
+  unfolding fetchIn
+  drop-other out j d = rw (drop-is .1, getD-set-other es k j [] [] d)

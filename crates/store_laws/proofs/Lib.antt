@@ -1,0 +1,11 @@
+pub mod Same
+pub mod Windows
+pub mod Slots
+pub mod Changes
+pub mod Packing
+pub mod Rooms
+pub mod Answers
+pub mod Lengths
+pub mod Scans
+pub mod Loads
+pub mod Returns
