@@ -1,5 +1,5 @@
 -- What judging promises: the definition's refusal, or the set with a view of its descriptors and containers.
-use Prim.Native.Nat.{ℕ, _+_, _-_, _≤_, _<_}
+use Prim.Native.Nat.{ℕ, _+_, _-_, _/_, _%_, _≤_, _<_}
 use mathlib.Core.Path.{_≡_}
 use mathlib.Core.Bool.{true, false}
 use mathlib.Core.List.{List, [], _∷_}
@@ -8,7 +8,7 @@ use lib.Dec.{leb, eqb}
 use Rattle.common.specs.Outcome.{Outcome, refused, found, pick, one}
 use Rattle.common.specs.Lists.{sum}
 use Rattle.common.specs.Bytes.{littleAt}
-use Rattle.bitmap_spec.specs.Judge.{Chunk, sizeOf, container, containerOk, containersOk, membersFrom, judge}
+use Rattle.bitmap_spec.specs.Judge.{Chunk, chunks, sizeOf, container, containerOk, containersOk, membersFrom, judge}
 use Rattle.chunk_read.specs.declared.Step.{Step}
 use Rattle.chunk_read.specs.Post.{said, nextOf}
 use Rattle.judge.specs.declared.Container.{Container}
@@ -34,6 +34,12 @@ pub record View (s d : List ℕ) (n start : ℕ) (l : List ℕ) : Type 0 where
   pub ends : start + sum sizeOf (take n d) ≡ length s
   pub sound : containersOk s start (take n d) ≡ true
   pub members : membersFrom s 0 start (take n d) ≡ l
+
+-- a view whose descriptors, and where they end, are as the chunks of s say them
+pub record ReadView (s d : List ℕ) (n start : ℕ) (l : List ℕ) : Type 0 where
+  pub view : SliceView s d n start l
+  pub count : littleAt s 4 2 ≡ n
+  pub read : chunks s 6 [] (n / 256) (n % 256) ≡ found (record { descs = take n d; next = start })
 
 -- the set that the first n descriptors of d say of the bytes of s from start on
 unfoldable pub viewed : List ℕ → List ℕ → ℕ → ℕ → List ℕ

@@ -9,7 +9,7 @@ ghost use Rattle.common.specs.Bytes.{littleAt};
 ghost use Rattle.bitmap_spec.specs.Judge.{sizeOf, chunks, judgeBody};
 ghost use Rattle.bitmap_spec.proofs.Reading.{walk};
 ghost use Rattle.bitmap_spec.proofs.Tally.{tally};
-ghost use Rattle.judge.specs.Post.{counted, sizeOfSet, Listed, Held, SliceView, JudgesIn, Judges, RoomFor, fall, edgeFalls, Sparse, Thin, Passes, sizeAt};
+ghost use Rattle.judge.specs.Post.{counted, sizeOfSet, Listed, Held, SliceView, ReadView, JudgesIn, Judges, RoomFor, fall, edgeFalls, Sparse, Thin, Passes, sizeAt};
 use chunk_read::Step;
 
 // A bitmap's refusal; or how many descriptors it has, where its containers start, and its cardinality.
@@ -343,9 +343,9 @@ pub fn is_small(s: &[u8]) -> bool
 
 // Judges s. Where it is accepted, the first `count` bytes of d are its descriptors and its containers start at `start`.
 // The rest of d is free, and all of it after a refusal.
-pub fn judge_slice(s: &[u8], d: &mut [u8]) -> Judged
+pub fn judge_read(s: &[u8], d: &mut [u8]) -> Judged
     requires { ⌜ RoomFor (now s) (length (now d)) ⌝ }
-    ensures { λ r. ⌜ JudgesIn SliceView (now (s .entry)) (now (d .exit)) r ⌝ }
+    ensures { λ r. ⌜ JudgesIn ReadView (now (s .entry)) (now (d .exit)) r ⌝ }
 {
     if s.len() < 6 {
         return Judged::Refused(1);
@@ -368,6 +368,14 @@ pub fn judge_slice(s: &[u8], d: &mut [u8]) -> Judged
             },
         },
     }
+}
+
+// The same, for those who ask for the containers alone.
+pub fn judge_slice(s: &[u8], d: &mut [u8]) -> Judged
+    requires { ⌜ RoomFor (now s) (length (now d)) ⌝ }
+    ensures { λ r. ⌜ JudgesIn SliceView (now (s .entry)) (now (d .exit)) r ⌝ }
+{
+    judge_read(s, d)
 }
 
 // The same with room for every bitmap's descriptors.
