@@ -20,4 +20,5 @@ pub mod Bound
 pub mod Plans
 pub mod Uses
 pub mod Output
+pub mod Parts
 pub mod Status

@@ -11,10 +11,7 @@ use lib.Seq.{length-take-le, take-suc, take-append-le, drop-append-le, take-take
 use lib.Seq.{take-at, drop-at, getD-drop}
 use Rattle.bitmap_spec.specs.Output.{written}
 use Rattle.bitmap_laws.proofs.Output.{written-more, written-none, taken}
-
--- so many bytes are there
-pub part-length : (s : List ℕ) (at n : ℕ) → at + n ≤ length s → length (take n (drop at s)) ≡ n
-part-length s at n h = length-take-le n (drop at s) (rw (length-drop at s) (omega arith))
+use Rattle.bitmap_laws.proofs.Parts.{part-length, at-after}
 
 -- one byte more of a part that is copied
 pub copy-turn : (s before out : List ℕ) (at to n i x : ℕ) → i < n → at + n ≤ length s → to + n ≤ length before
@@ -123,3 +120,21 @@ unfolding written
 read-back s l p n h e =
     rw (drop-at (take p s) (l ++ drop (p + length l) s) p (length-take-le p s h))
     (take-at l (drop (p + length l) s) n (sym e))
+
+-- ---- bytes moved down
+pub self-written : (s : List ℕ) (at to n : ℕ) → at ≡ to → at + n ≤ length s → s ≡ written s to (take n (drop at s))
+unfolding written
+self-written s at to n e h =
+    let k : length (take n (drop at s)) ≡ n = part-length s at n h in
+    rw (k, e, ← drop-drop n to s, take-append-drop n (drop to s)) (sym (take-append-drop to s))
+
+-- one byte more: what is still to be read lies behind what is written
+pub down-turn : (s out : List ℕ) (at to n i : ℕ) → to ≤ at → at + n ≤ length s → i < n
+    → out ≡ written s to (take i (drop at s))
+    → set out (to + i) (getD out (at + i) 0) ≡ written s to (take (i + 1) (drop at s))
+down-turn s out at to n i h g l e =
+    let k : length (take i (drop at s)) ≡ i = part-length s at i (omega arith) in
+    let x : getD out (at + i) 0 ≡ getD s (at + i) 0 =
+    ap (λ (b : List ℕ). getD b (at + i) 0) e
+    ∙ at-after s (take i (drop at s)) to (omega arith) (at + i) (omega arith) in
+    copy-turn s s out at to n i (getD out (at + i) 0) l g (omega arith) x e

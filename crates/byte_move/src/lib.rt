@@ -1,4 +1,4 @@
-// Bytes copied from one slice to another, and moved up within one. Inner: no entry point.
+// Bytes copied from one slice to another, and moved up or down within one. Inner: no entry point.
 ghost use mathlib.Core.Path.{_≡_};
 ghost use Prim.Native.Nat.{_+_, _≤_};
 ghost use lib.ListN.{length, take, drop};
@@ -39,4 +39,20 @@ pub fn move_up(s: &mut [u8], from: usize, to: usize, n: usize) -> usize
         shift(s, from + i, to + i, 1024, &mut part);
     }
     shift(s, from, to, i, &mut part)
+}
+
+// Moves the n bytes of s from `from` on down to `to`: the first first, so that each is read before it is written over.
+pub fn move_down(s: &mut [u8], from: usize, to: usize, n: usize) -> usize
+    requires { ⌜ (to ≤ from) × (from + n ≤ length (now s)) ⌝ }
+    ensures { λ r. ⌜ now (s .exit) ≡ written (now (s .entry)) to (take n (drop from (now (s .entry)))) ⌝ }
+{
+    if from == to {
+        return n;
+    }
+    let mut i: usize = 0;
+    while i < n {
+        s[to + i] = s[from + i];
+        i += 1;
+    }
+    n
 }

@@ -16,7 +16,7 @@ use Rattle.bitmap_laws.proofs.Output.{length-written}
 use Rattle.store_spec.specs.Store.{isForm, startAt, lengthAt, endAt, entryAt, sound, entriesOf, entries, some}
 use Rattle.store_spec.specs.Store.{fetchIn, dropIn, doneOf, Left, Changes}
 use Rattle.store_spec.specs.declared.Stored.the-variants as storing
-use Rattle.store_laws.proofs.Windows.{part-before, part-in}
+use Rattle.bitmap_laws.proofs.Parts.{part-before, part-in}
 use Rattle.store_laws.proofs.Slots.{Lies, entries-bad, entries-is, entry-is, entry-long}
 use Rattle.store_laws.proofs.Slots.{some-true, some-false, entries-set}
 

@@ -1,5 +1,4 @@
 pub mod Same
-pub mod Windows
 pub mod Slots
 pub mod Changes
 pub mod Packing

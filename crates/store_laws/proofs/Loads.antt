@@ -17,7 +17,7 @@ use Rattle.row_spec.specs.declared.Varint.the-variants.{Number, CutShort, IllFo
 use Rattle.store_spec.specs.Store.{total}
 use Rattle.store_laws.proofs.Answers.{found-is, need-found}
 use Rattle.store_laws.proofs.Slots.{form-few}
-use Rattle.store_laws.proofs.Windows.{length-part}
+use Rattle.bitmap_laws.proofs.Parts.{part-length}
 use Rattle.store_spec.specs.Saved.{saved, isEntry, onShortest, Taken, entryFrom, Scan, scan, fitting, loadOn}
 use Rattle.store_laws.proofs.Lengths.{past, left-long, length-back, length-on, shortest-some}
 use Rattle.store_laws.proofs.Scans.{empty-entry, some-entry, made, scan-step, scan-took, scan-zero, scan-over}
@@ -53,7 +53,7 @@ module _ (s : List ℕ) (byte : (i : ℕ) → getD s i 0 < 256) (at : ℕ) where
       → Entry s at (record { entry = take n (drop next s); next = next + n })
   number n next v room form =
       let h = leb-true _ _ room in
-      let l : length (take n (drop next s)) ≡ n = length-part s next n h in
+      let l : length (take n (drop next s)) ≡ n = part-length s next n h in
       let cut : drop next s ≡ take n (drop next s) ++ drop (next + n) s =
       sym (take-append-drop n (drop next s))
       ∙ ap (λ (x : List ℕ). take n (drop next s) ++ x) (drop-drop n next s) in

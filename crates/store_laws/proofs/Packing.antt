@@ -17,7 +17,7 @@ use Rattle.bitmap_spec.proofs.Window.{below-or}
 use Rattle.bitmap_spec.proofs.Tally.{tally, tally-same}
 use Rattle.bitmap_laws.proofs.Output.{length-written}
 use Rattle.store_spec.specs.Store.{isForm, startAt, lengthAt, endAt, entryAt}
-use Rattle.store_laws.proofs.Windows.{length-part, part-before, part-after, part-in}
+use Rattle.bitmap_laws.proofs.Parts.{part-length, part-before, part-after, part-in}
 use Rattle.store_laws.proofs.Slots.{Lies}
 use Rattle.store_laws.proofs.Changes.{same-or, start-other, start-new, length-same, end-is, entry-none}
 
@@ -108,7 +108,7 @@ module _ (n : ℕ) (dir₀ buf₀ dir buf : List ℕ) (to k : ℕ) (g : Packing 
   part = take (lengthAt dir k) (drop (startAt dir k) buf)
 
   part-long : length (take (lengthAt dir k) (drop (startAt dir k) buf)) ≡ lengthAt dir k
-  part-long = length-part buf (startAt dir k) (lengthAt dir k) moved-inside
+  part-long = part-length buf (startAt dir k) (lengthAt dir k) moved-inside
 
   fits : to + length (take (lengthAt dir k) (drop (startAt dir k) buf)) ≤ length buf
   fits = omega (arith, part-long, moved-inside, x .comes)

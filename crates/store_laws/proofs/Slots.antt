@@ -25,7 +25,7 @@ use Rattle.bitmap_laws.proofs.Values.{every-at}
 use Rattle.store_spec.specs.Store.{formIs, isForm, startAt, lengthAt, endAt, entryAt, slotOk, apart, sound}
 use Rattle.store_spec.specs.Store.{entriesOf, entries, total, some}
 use Rattle.store_laws.proofs.Same.{same-true, same-refl}
-use Rattle.store_laws.proofs.Windows.{length-part}
+use Rattle.bitmap_laws.proofs.Parts.{part-length}
 
 -- ---- forms
 no : {A : Type 0} (b : Bool) → b ≡ true → b ≡ false → A
@@ -165,7 +165,7 @@ pub entry-long : (n : ℕ) (dir buf : List ℕ) (k : ℕ) → Lies n dir buf →
     → length (entryAt dir buf k) ≡ lengthAt dir k
 unfolding entryAt endAt
 entry-long n dir buf k s h =
-    ⊎-elim (λ l. length-part buf (startAt dir k) (lengthAt dir k) (s .inside k h l))
+    ⊎-elim (λ l. part-length buf (startAt dir k) (lengthAt dir k) (s .inside k h l))
     (λ l. let z : lengthAt dir k ≡ 0 = omega arith in rw z) (below-or 0 (lengthAt dir k))
 
 pub some-true : (w : List ℕ) → 0 < length w → some w ≡ true
