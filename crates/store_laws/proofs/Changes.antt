@@ -14,7 +14,7 @@ use Rattle.bitmap_spec.specs.Output.{written, placed}
 use Rattle.bitmap_spec.proofs.Window.{below-or}
 use Rattle.bitmap_laws.proofs.Output.{length-written}
 use Rattle.store_spec.specs.Store.{isForm, startAt, lengthAt, endAt, entryAt, sound, entriesOf, entries, some}
-use Rattle.store_spec.specs.Store.{fetchIn, dropIn, doneOf, Left, Changes}
+use Rattle.store_spec.specs.Store.{fetchIn, dropIn, doneOf, Left, Changes, emptied, Drops}
 use Rattle.store_spec.specs.declared.Stored.the-variants as storing
 use Rattle.bitmap_laws.proofs.Parts.{part-before, part-in}
 use Rattle.store_laws.proofs.Slots.{Lies, entries-bad, entries-is, entry-is, entry-long}
@@ -138,15 +138,23 @@ module _ (n : ℕ) (dir buf : List ℕ) (k : ℕ) (s : Lies n dir buf) (len : le
   drop-some l = rw (entries-is n dir buf len s) (rw (entry-some l))
 
   pub drop-done : 0 < lengthAt dir k
-      → Changes (then (entries n dir buf) (dropIn k)) n dir buf (set dir (2 * k + 1) 0) buf storing.Done
-  unfolding doneOf Left
-  drop-done l =
-      record { says = rw (drop-some l); left = rw (drop-some l) (length-set dir (2 * k + 1) 0, refl, clear-means) }
+      → Drops (then (entries n dir buf) (dropIn k)) n k dir buf (set dir (2 * k + 1) 0) storing.Done
+  unfolding doneOf Left emptied
+  drop-done l = record {
+    says = rw (drop-some l);
+    numbers = rw (drop-some l);
+    left = rw (drop-some l) (length-set dir (2 * k + 1) 0, refl, clear-means);
+  }
 
 -- ---- refusals
 pub bad-entries : {A : Type 0} (n : ℕ) (dir buf : List ℕ) (f : List (List ℕ) → Outcome A) → length dir ≡ 2 * n
     → sound n dir buf ≡ false → then (entries n dir buf) f ≡ refused 42
 bad-entries n dir buf f e q = rw (entries-bad n dir buf e q)
+
+pub drop-refused : (o : Outcome (List (List ℕ))) (n k : ℕ) (dir buf : List ℕ) (m : ℕ) → o ≡ refused m
+    → Drops o n k dir buf dir (storing.Refused m)
+unfolding doneOf Left emptied
+drop-refused o n k dir buf m e = record { says = rw e; numbers = rw e; left = rw e (refl, refl) }
 
 pub change-refused : (o : Outcome (List (List ℕ))) (n : ℕ) (dir buf : List ℕ) (m : ℕ) → o ≡ refused m
     → Changes o n dir buf dir buf (storing.Refused m)
