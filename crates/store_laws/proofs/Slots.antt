@@ -6,6 +6,7 @@ use mathlib.Core.Bool.{Bool, true, false}
 use mathlib.Core.List.{List, [], _∷_, map}
 use Prim.Native.Nat.{ℕ, zero, suc, _+_, _*_, _≤_, _<_}
 use native.Mathlib.Nat.{add-zero, zero-add, add-suc, suc-add, eq-or-lt-of-le, not-suc-le-zero, le-of-suc-le-suc}
+use native.Mathlib.Numerals.{add-one}
 use native.Mathlib.Omega.{arith}
 use borrow.Author.Tests.{eq-eqb, ne-eqb, leb-true, le-leb}
 use lib.ListN.{length, getD, set, length-map, length-set}
@@ -225,3 +226,12 @@ pub total-is : (n : ℕ) (dir buf : List ℕ) → Lies n dir buf → total (entr
 unfolding entriesOf
 total-is n dir buf s =
     total-map (entryAt dir buf) (lengthAt dir) 0 n (λ i l. rw (zero-add i) (entry-long n dir buf i s l))
+
+-- ---- a sum
+pub tally-more : (f : ℕ → ℕ) (k t x : ℕ) → t ≡ tally f 0 k → x ≡ f k → t + x ≡ tally f 0 (k + 1)
+unfolding tally
+tally-more f k t x e q = rw (add-one k, zero-add k, e, q)
+
+pub tally-none : (f : ℕ → ℕ) → 0 ≡ tally f 0 0
+unfolding tally
+tally-none f = refl

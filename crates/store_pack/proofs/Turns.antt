@@ -1,25 +1,13 @@
--- One turn of the loops that sum lengths and move forms together.
+-- One turn of the loop that moves forms together.
 -- Assumes nothing.
-use mathlib.Core.Path.{_≡_, refl}
+use mathlib.Core.Path.{_≡_}
 use mathlib.Core.List.{List}
 use Prim.Native.Nat.{ℕ, _+_, _*_, _≤_, _<_}
-use native.Mathlib.Nat.{zero-add}
-use native.Mathlib.Numerals.{add-one}
 use native.Mathlib.Omega.{arith}
 use lib.ListN.{length, set, take, drop}
 use Rattle.bitmap_spec.specs.Output.{written}
-use Rattle.bitmap_spec.proofs.Tally.{tally}
 use Rattle.store_spec.specs.Store.{startAt, lengthAt}
 use Rattle.store_laws.proofs.Packing.{Packing, Best, best-next, pack-step, moved-inside}
-
--- ---- a sum
-pub tally-more : (f : ℕ → ℕ) (k t x : ℕ) → t ≡ tally f 0 k → x ≡ f k → t + x ≡ tally f 0 (k + 1)
-unfolding tally
-tally-more f k t x e q = rw (add-one k, zero-add k, e, q)
-
-pub tally-none : (f : ℕ → ℕ) → 0 ≡ tally f 0 0
-unfolding tally
-tally-none f = refl
 
 -- ---- one turn of packing
 pub pack-turn : (n : ℕ) (dir₀ buf₀ dir buf : List ℕ) (to k at m : ℕ) → Packing n dir₀ buf₀ dir buf to

@@ -1,7 +1,7 @@
 -- Assumes nothing.
 use Rattle.bitmap_spec.proofs.Tally.{tally}
 use Rattle.store_spec.specs.Store.{lengthAt}
-use Rattle.store_pack.proofs.Turns.{tally-more, tally-none}
+use Rattle.store_laws.proofs.Slots.{tally-more, tally-none}
 use borrow.Author.Needs.{needs}
 use mathlib.Core.Path.{_≡_}
 use Prim.Native.Nat.{_-_, _*_, _≤_}
