@@ -63,7 +63,7 @@ unfolding page
 page-numbered s at room = told-numbered _ _ (judge-numbered s)
 
 -- ---- writing and combining
-placed-numbered : (w : List ℕ) (room : ℕ) → Numbered (placed w room)
+pub placed-numbered : (w : List ℕ) (room : ℕ) → Numbered (placed w room)
 unfolding placed
 placed-numbered w room = need-numbered _ _ _ (found-numbered _)
 

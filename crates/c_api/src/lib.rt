@@ -5,3 +5,4 @@ mod bitmap_writing;
 mod bucket_calls;
 mod number_calls;
 mod row_calls;
+mod store_calls;

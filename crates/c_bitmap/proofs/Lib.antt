@@ -1,3 +1,3 @@
 mod Pages
-mod Writes
+pub mod Writes
 pub mod Worked

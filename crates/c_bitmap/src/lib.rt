@@ -7,6 +7,7 @@ pub use reading::bitmap_check;
 pub use reading::bitmap_page;
 pub use reading::bitmap_probe;
 pub use reading::bitmap_rank;
+pub use writing::answer;
 pub use writing::bitmap_difference;
 pub use writing::bitmap_intersection;
 pub use writing::bitmap_symmetric_difference;

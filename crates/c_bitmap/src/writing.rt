@@ -7,7 +7,7 @@ ghost use Rattle.c_bitmap.specs.Writing.{WriteCall};
 use bitmap_spec::Written;
 
 // The answer of a writing call as a status; the length is set where there is one.
-fn answer(w: Written, size: &mut usize) -> u32
+pub fn answer(w: Written, size: &mut usize) -> u32
     ensures { λ r. ⌜ CountCall (said w) r (now (size .entry)) (now (size .exit)) ⌝ }
 {
     match w {

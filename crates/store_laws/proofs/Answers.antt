@@ -1,5 +1,5 @@
 -- What put and drop of a slot do to the answers of that slot and of the others, and when a put is refused for room.
--- They hold for a whole store and for each crew's own: es are the entries before the call, es′ those after it.
+-- es are the entries before the call, those of a whole store or of any share of it; es′ those after it.
 -- Assumes nothing.
 use mathlib.Core.Path.{_≡_, refl, sym, _∙_}
 use mathlib.Core.Logic.{⊎-elim}
@@ -40,6 +40,16 @@ module _ (room k : ℕ) (bitmap l : List ℕ) (es : List (List ℕ)) (judged : j
   pub put-fits : total (set es k (form l)) ≤ room → putIn room k bitmap es ≡ found (set es k (form l))
   unfolding putIn need
   put-fits h = rw (judged, le-leb _ _ h)
+
+  -- the same in one statement: past the bitmap's own refusals the answer is 13 exactly if the sum is over the room
+  pub put-room : (putIn room k bitmap es ≡ refused 13 → room < total (set es k (form l)))
+      × (room < total (set es k (form l)) → putIn room k bitmap es ≡ refused 13)
+  put-room = (over, put-full)
+    where
+      over : putIn room k bitmap es ≡ refused 13 → room < total (set es k (form l))
+      over e =
+          ⊎-elim (λ h. h) (λ h. absurd (let f = put-fits h in let z : _≡_ {A = ℕ} 0 1 = cc in omega arith))
+          (below-or room (total (set es k (form l))))
 
   module _ (es′ : List (List ℕ)) (done : putIn room k bitmap es ≡ found es′) where
     put-is : es′ ≡ set es k (form l)

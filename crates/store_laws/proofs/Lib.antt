@@ -8,3 +8,4 @@ pub mod Lengths
 pub mod Scans
 pub mod Loads
 pub mod Returns
+pub mod Status

@@ -110,6 +110,16 @@ pub fn put(dir: &mut [u32], buf: &mut [u8], n: usize, k: usize, bitmap: &[u8]) -
             start,
             cardinality,
             size,
-        } => replace(dir, buf, n, k, bitmap, start, &d[..count], cardinality, size),
+        } => replace(
+            dir,
+            buf,
+            n,
+            k,
+            bitmap,
+            start,
+            &d[..count],
+            cardinality,
+            size,
+        ),
     }
 }
