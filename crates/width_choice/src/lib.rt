@@ -185,7 +185,7 @@ pub fn cheapest_at(ds: &[u8], m: u8, w: u32) -> u32
     requires { ⌜ (length (now ds) ≤ 256) × (m ≡ least (now ds)) × (w ≡ largest (map width (map (λ d. d - m) (now ds)))) × (w ≤ 8) ⌝ }
     ensures { λ r. ⌜ (r ≡ cheapest (map (λ d. d - m) (now (ds .entry))) w) × (r ≤ w) ⌝ }
 {
-    let top = packed_size(ds.len(), w);
+    let last = packed_size(ds.len(), w);
     let mut best: u32 = 0;
     let mut least = cost_at(ds, m, w, 0);
     let mut b: u32 = 0;
@@ -196,14 +196,14 @@ pub fn cheapest_at(ds: &[u8], m: u8, w: u32) -> u32
             return best;
         }
         // and, below w, two bytes of exceptions more: then w is settled with no further count
-        if top < low + 2 {
-            return cheaper(best, least, w, top);
+        if last < low + 2 {
+            return cheaper(best, least, w, last);
         }
         b += 1;
-        let c = cost_at(ds, m, w, b);
-        if c < least {
+        let cost = cost_at(ds, m, w, b);
+        if cost < least {
             best = b;
-            least = c;
+            least = cost;
         }
     }
     // only a w of 0 ends here
