@@ -143,8 +143,12 @@ module _ (s ds : List ℕ) (at i e : ℕ) (some : i < e) (upto : e ≤ length ds
       last q g =
           let a : (length ds - i) / 256 ≡ 0 = omega arith in
           let n : length (drop i ds) ≡ e - i = length-drop i ds ∙ omega arith in
-          rw (rest-none s ds (chunkEnd (headAt s at (e - i))) e (omega arith), a,
-          take-all (e - i) (drop i ds) (omega arith), ← both-true)
+          rw (
+            rest-none s ds (chunkEnd (headAt s at (e - i))) e (omega arith),
+            a,
+            take-all (e - i) (drop i ds) (omega arith),
+            ← both-true,
+          )
           (last-head s (drop i ds) at (omega arith) ∙ rw n)
 
   -- by what the head's comparison says

@@ -88,3 +88,36 @@ fn heads_are(s: &[u8], ds: &[u8]) -> bool
     }
     true
 }
+
+// Whether s is the written form of its set, with room for its descriptors in d.
+fn form_in(s: &[u8], d: &mut [u8]) -> bool
+    requires { ⌜ RoomFor (now s) (length (now d)) ⌝ }
+    ensures { λ r. ⌜ r ≡ isForm (now (s .entry)) ⌝ }
+{
+    match judge::judge_read(s, d) {
+        Judged::Refused(_) => false,
+        Judged::Accepted {
+            count,
+            start: _,
+            cardinality: _,
+        } => {
+            let ds = &d[..count];
+            if !is_settled(ds) {
+                return false;
+            }
+            heads_are(s, ds)
+        }
+    }
+}
+
+// Whether s is the written form of the set that it stands for.
+pub fn is_form(s: &[u8]) -> bool
+    ensures { λ r. ⌜ r ≡ isForm (now (s .entry)) ⌝ }
+{
+    if judge::is_small(s) {
+        let mut few = [0u8; 256];
+        return form_in(s, &mut few);
+    }
+    let mut all = [0u8; 8192];
+    form_in(s, &mut all)
+}

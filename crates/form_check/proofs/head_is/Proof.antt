@@ -31,7 +31,7 @@ returns-2 c =
     let w = c .before .before .largest-width in
     c .is-flat .ensures
     ∙ flat (a .h) (a .ds .now) (m .result) (m .ensures) (c .before .before .before .if1 .left) (w .result)
-        (w .ensures .0)
+    (w .ensures .0)
     (c .before .if2 .taken)
 
 cheapest-at-requires : tie.Need-cheapest-at-requires
@@ -45,7 +45,7 @@ returns-3 c =
     let b = c .before .before .cheapest-at in
     let same = c .before .before .before .before .before .if1 .left in
     other-width (a .h) (a .ds .now) (m .result) (m .ensures) same (w .result) (w .ensures .0) (b .result)
-        (b .ensures .0)
+    (b .ensures .0)
     (c .if3 .taken)
 
 wider-of-requires : tie.Need-wider-of-requires
