@@ -1,16 +1,15 @@
 -- Descriptors of which none is over 32: the largest is not.
 -- Assumes nothing.
 use mathlib.Core.Path.{_≡_, refl}
-use mathlib.Core.Bool.{Bool, true, false}
+use mathlib.Core.Bool.{true, false}
 use mathlib.Core.Logic.{⊎-elim}
 use mathlib.Core.List.{List, [], _∷_}
-use Prim.Native.Nat.{ℕ, _-_, _≤_, _<_, max}
+use Prim.Native.Nat.{ℕ, _-_, _≤_, _<_}
 use native.Mathlib.Omega.{arith}
 use borrow.Author.Tests.{le-leb, lt-leb, eq-eqb, ne-eqb}
 use lib.Dec.{leb, ltb}
 use lib.ListN.{length, getD}
 use Rattle.common.specs.Lists.{every}
-use Rattle.common.specs.Outcome.{both}
 use Rattle.bitmap_spec.proofs.Window.{below-or}
 use Rattle.bitmap_spec.specs.Form.{largest}
 use Rattle.form_check.specs.Heads.{isSettled}

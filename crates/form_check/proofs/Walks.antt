@@ -4,13 +4,13 @@ use mathlib.Core.Path.{_≡_, refl, sym, ap, _∙_}
 use mathlib.Core.Bool.{Bool, true, false}
 use mathlib.Core.Logic.{_⊎_, ⊎-elim}
 use mathlib.Core.List.{List, [], _∷_, _++_}
-use Prim.Native.Nat.{ℕ, zero, suc, _+_, _-_, _*_, _/_, _%_, _≤_, _<_}
+use Prim.Native.Nat.{ℕ, suc, _+_, _-_, _*_, _/_, _%_, _≤_, _<_}
 use native.Mathlib.Omega.{arith}
 use borrow.Author.Tests.{leb-true}
 use lib.ListN.{length, take, drop, length-drop, drop-of-length-le}
 use lib.Seq.{drop-drop, take-all}
 use Rattle.common.specs.Bytes.{ceil8}
-use Rattle.common.specs.Outcome.{both, found, then, need}
+use Rattle.common.specs.Outcome.{both, found}
 use Rattle.common.proofs.Lists.{both-left}
 use Rattle.common.proofs.Outcomes.{then-found, same-found}
 use Rattle.bitmap_spec.proofs.Window.{below-or}
