@@ -1,4 +1,4 @@
--- The widths of a chunk's values that are over b.
+-- The numbers of a list that are over b.
 use Prim.Native.Nat.{ℕ}
 use mathlib.Core.List.{List}
 use lib.Dec.{ltb}

@@ -6,7 +6,7 @@ ghost use lib.Dec.{ltb};
 ghost use lib.ListN.{length, getD};
 ghost use Rattle.common.specs.Bytes.{ceil8};
 ghost use Rattle.common.specs.Outcome.{pick};
-ghost use Rattle.bitmap_spec.specs.Form.{width, least, largest, cost, cheapest};
+ghost use Rattle.bitmap_spec.specs.Form.{width, least, largest, wider, cost, cheapest};
 ghost use Rattle.bitmap_spec.specs.Output.{written};
 ghost use Rattle.width_choice.specs.Over.{over};
 
@@ -131,6 +131,79 @@ pub fn cheapest_of(ws: &[u8], w: u32) -> u32
         if c < least {
             best = b;
             least = c;
+        }
+    }
+    // only a w of 0 ends here
+    best
+}
+
+// How many of ds are over t, counted in a byte and with no branch: of that the back end compares sixteen at a time.
+pub fn count_over(ds: &[u8], t: u8) -> usize
+    requires { ⌜ length (over t (now ds)) ≤ 255 ⌝ }
+    ensures { λ r. ⌜ r ≡ length (over t (now (ds .entry))) ⌝ }
+{
+    let mut e: u8 = 0;
+    let mut i: usize = 0;
+    while i < ds.len() {
+        e += (t < ds[i]) as u8;
+        i += 1;
+    }
+    e as usize
+}
+
+// The largest width of descriptors less m, the least of them.
+pub fn largest_width(ds: &[u8], m: u8) -> u32
+    requires { ⌜ m ≡ least (now ds) ⌝ }
+    ensures { λ r. ⌜ (r ≡ largest (map width (map (λ d. d - m) (now (ds .entry))))) × (r ≤ 8) ⌝ }
+{
+    width_of(largest_of(ds) - m) as u32
+}
+
+// How many descriptors less m, the least of them, are wider than b: those over m + 2^b - 1.
+pub fn wider_of(ds: &[u8], m: u8, b: u32) -> usize
+    requires { ⌜ (length (now ds) ≤ 256) × (m ≡ least (now ds)) × (b ≤ 8) ⌝ }
+    ensures { λ r. ⌜ (r ≡ length (wider b (map (λ d. d - m) (now (ds .entry))))) × (r ≤ 255) ⌝ }
+{
+    let t = (m as u32) + (1 << b) - 1;
+    if 255 < t {
+        return 0;
+    }
+    count_over(ds, t as u8)
+}
+
+// The cost of the width b for descriptors less m, the least of them, where w is the largest width.
+fn cost_at(ds: &[u8], m: u8, w: u32, b: u32) -> usize
+    requires { ⌜ (length (now ds) ≤ 256) × (m ≡ least (now ds)) × (w ≡ largest (map width (map (λ d. d - m) (now ds)))) × (w ≤ 8) × (b ≤ w) ⌝ }
+    ensures { λ r. ⌜ r ≡ cost (map (λ d. d - m) (now (ds .entry))) b ⌝ }
+{
+    let e = wider_of(ds, m, b);
+    packed_size(ds.len(), b) + e + packed_size(e, w - b)
+}
+
+// The width of least cost for descriptors less m, the least of them, the smaller on a tie; w is the largest width.
+pub fn cheapest_at(ds: &[u8], m: u8, w: u32) -> u32
+    requires { ⌜ (length (now ds) ≤ 256) × (m ≡ least (now ds)) × (w ≡ largest (map width (map (λ d. d - m) (now ds)))) × (w ≤ 8) ⌝ }
+    ensures { λ r. ⌜ (r ≡ cheapest (map (λ d. d - m) (now (ds .entry))) w) × (r ≤ w) ⌝ }
+{
+    let last = packed_size(ds.len(), w);
+    let mut best: u32 = 0;
+    let mut least = cost_at(ds, m, w, 0);
+    let mut b: u32 = 0;
+    while b < w {
+        let low = packed_size(ds.len(), b + 1);
+        // a larger width costs at least its low parts
+        if least <= low {
+            return best;
+        }
+        // and, below w, two bytes of exceptions more: then w is settled with no further count
+        if last < low + 2 {
+            return cheaper(best, least, w, last);
+        }
+        b += 1;
+        let cost = cost_at(ds, m, w, b);
+        if cost < least {
+            best = b;
+            least = cost;
         }
     }
     // only a w of 0 ends here

@@ -1,63 +1,87 @@
+-- The least, the width, the number of exceptions and the second width, in this order.
 -- Assumes nothing.
-use lib.ListN.{take}
-use lib.Seq.{length-take-le}
-use Rattle.bitmap_laws.proofs.Output.{taken}
-use Rattle.chunks_write.proofs.Rests.{all-few}
-use Rattle.bitmap_rewrite.proofs.Laying.{head-long}
-use Rattle.store_spec.specs.Store.{same}
-use mathlib.Core.Path.{sym, ap, _∙_}
-use native.Mathlib.Omega.{arith}
+use mathlib.Core.Path.{_∙_, sym}
+use Rattle.form_check.proofs.Compare.{other-least, flat, other-width, by-exceptions}
 use borrow.Author.Needs.{needs}
 use Rattle.form_check.proofs.head_is.Statement.{statement}
 use Rattle.form_check.proofs.head_is.Tie as tie
 
-slice-aggregate-put-head : tie.Need-slice-aggregate-put-head
-slice-aggregate-put-head c = search needs
+least-of-requires : tie.Need-least-of-requires
+least-of-requires c κs = search needs
 
-put-head-requires : tie.Need-put-head-requires
-put-head-requires c κs =
-    let args = c .before .before .before .args in
-    let pre = c .before .before .before .pre in
-    (pre .1, pre .2, omega (arith, all-few (args .ds .now) (pre .1) (pre .2)))
-
-slice-aggregate-equal : tie.Need-slice-aggregate-equal
-slice-aggregate-equal c =
-    let pre = c .before .before .before .before .before .before .pre in
-    sym (length-take-le _ _ (pre .0))
-
-array-share-prefix-head : tie.Need-array-share-prefix-head
-array-share-prefix-head c =
-    let args = c .before .before .before .before .before .before .args in
-    let pre = c .before .before .before .before .before .before .pre in
-    omega (arith, c .before .before .put-head .ensures .0, all-few (args .ds .now) (pre .1) (pre .2))
-
-slice-aggregate-equal-2 : tie.Need-slice-aggregate-equal-2
-slice-aggregate-equal-2 c =
-    let args = c .before .before .before .before .before .before .before .args in
-    let pre = c .before .before .before .before .before .before .before .pre in
-    let put-head = c .before .before .before .put-head in
-    sym
-    (length-take-le _ _
-    (omega (arith, put-head .kept .1 .1 .0, put-head .ensures .0, all-few (args .ds .now) (pre .1) (pre .2))))
-
-equal-requires : tie.Need-equal-requires
-equal-requires c κs = search needs
+cast-if1 : tie.Need-cast-if1
+cast-if1 c = search needs
 
 returns : tie.Need-returns
 returns c =
-    let args = c .before .before .before .before .before .before .before .before .args in
-    let put-head = c .before .before .before .before .put-head in
-    c .equal .ensures ∙ ap (same (take (args .start) (args .s .now)))
-    (taken _ _ _ _ (put-head .ensures .1) (put-head .ensures .0 ∙ sym (head-long (args .ds .now) (args .card))))
+    let a = c .before .before .before .before .args in
+    let m = c .before .before .least-of in
+    other-least (a .h) (a .ds .now) (m .result) (m .ensures) (c .if1 .taken)
+
+largest-width-requires : tie.Need-largest-width-requires
+largest-width-requires c κs = search needs
+
+is-flat-requires : tie.Need-is-flat-requires
+is-flat-requires c κs = search needs
+
+returns-2 : tie.Need-returns-2
+returns-2 c =
+    let a = c .before .before .before .before .before .before .before .args in
+    let m = c .before .before .before .before .before .least-of in
+    let w = c .before .before .largest-width in
+    c .is-flat .ensures
+    ∙ flat (a .h) (a .ds .now) (m .result) (m .ensures) (c .before .before .before .if1 .left) (w .result)
+    (w .ensures .0)
+    (c .before .if2 .taken)
+
+cheapest-at-requires : tie.Need-cheapest-at-requires
+cheapest-at-requires c κs = search needs
+
+returns-3 : tie.Need-returns-3
+returns-3 c =
+    let a = c .before .before .before .before .before .before .before .before .before .args in
+    let m = c .before .before .before .before .before .before .before .least-of in
+    let w = c .before .before .before .before .largest-width in
+    let b = c .before .before .cheapest-at in
+    let same = c .before .before .before .before .before .if1 .left in
+    other-width (a .h) (a .ds .now) (m .result) (m .ensures) same (w .result) (w .ensures .0) (b .result)
+    (b .ensures .0)
+    (c .if3 .taken)
+
+wider-of-requires : tie.Need-wider-of-requires
+wider-of-requires c κs = search needs
+
+sub-exceptions-are : tie.Need-sub-exceptions-are
+sub-exceptions-are c = search needs
+
+exceptions-are-requires : tie.Need-exceptions-are-requires
+exceptions-are-requires c κs = search needs
+
+returns-4 : tie.Need-returns-4
+returns-4 c =
+    let a = c .before .before .before .before .before .before .before .before .before .before .before .args in
+    let m = c .before .before .before .before .before .before .before .before .before .least-of in
+    let w = c .before .before .before .before .before .before .largest-width in
+    let b = c .before .before .before .before .cheapest-at in
+    let e = c .before .wider-of in
+    let same = c .before .before .before .before .before .before .before .if1 .left in
+    c .exceptions-are .ensures
+    ∙ by-exceptions (a .h) (a .ds .now) (m .result) (m .ensures) same (w .result) (w .ensures .0) (b .result)
+    (b .ensures .0) (e .result) (c .before .before .if3 .left) (e .ensures .0)
 
 pub head-is-spec : {M : Type 1} → statement M
 head-is-spec =
     tie.close
     (tie.spec
-    slice-aggregate-put-head
-    put-head-requires
-    slice-aggregate-equal
-    array-share-prefix-head
-    slice-aggregate-equal-2
-    equal-requires
-    returns)
+    least-of-requires
+    cast-if1
+    returns
+    largest-width-requires
+    is-flat-requires
+    returns-2
+    cheapest-at-requires
+    returns-3
+    wider-of-requires
+    sub-exceptions-are
+    exceptions-are-requires
+    returns-4)
