@@ -20,6 +20,8 @@ mod numbers;
 mod plans;
 #[cfg(feature = "rows")]
 mod rows;
+#[cfg(feature = "store")]
+mod store;
 
 /// How often each refusal number was reached; 0 stands for acceptance.
 #[derive(Default)]
@@ -29,6 +31,12 @@ impl Tally {
     pub fn count<T>(&mut self, outcome: &Result<T, u32>) {
         let number = outcome.as_ref().err().copied().unwrap_or(0);
         *self.0.entry(number).or_default() += 1;
+    }
+
+    /// Counts the outcome of one of several calls: its number, and 100 for each call before it.
+    pub fn count_call<T>(&mut self, call: u32, outcome: &Result<T, u32>) {
+        let number = outcome.as_ref().err().copied().unwrap_or(0);
+        *self.0.entry(100 * call + number).or_default() += 1;
     }
 }
 
@@ -70,6 +78,13 @@ pub fn groups() -> Vec<Group> {
         },
         #[cfg(feature = "combine")]
         Group { name: "plans", refusals: &[13], default_cases: 10_000, run_case: plans::run_case },
+        #[cfg(feature = "store")]
+        Group {
+            name: "store",
+            refusals: &STORE_OUTCOMES,
+            default_cases: 10_000,
+            run_case: store::run_case,
+        },
         #[cfg(feature = "numbers")]
         Group {
             name: "numbers",
@@ -94,6 +109,13 @@ pub fn groups() -> Vec<Group> {
         },
     ]
 }
+
+/// Put, then from 100 on fetch, from 200 on drop, from 300 on save, from 400 on load.
+#[cfg(feature = "store")]
+const STORE_OUTCOMES: [u32; 28] = [
+    1, 2, 3, 4, 5, 6, 7, 8, 9, 10, 11, 13, 40, 42, 100, 113, 140, 141, 142, 200, 240, 241, 242,
+    300, 313, 342, 400, 442,
+];
 
 /// The cases from here on are the edges of a group, as many as it has.
 const FIRST_EDGE: u64 = 1000;
