@@ -73,10 +73,12 @@ pub const SPOILS: [(&str, Spoil); 15] = [
     }),
     ("end wraps", |random, store, slot| {
         let (start, length) = store.place(slot);
-        let wrapped = random.pick(&[0, 1, 6, start, start + length]);
-        match random.below(2) {
-            0 => store.set(slot, wrapped.wrapping_sub(length), length),
-            _ => store.set(slot, start, wrapped.wrapping_sub(start)),
+        if start > 0 && random.once_in(2) {
+            let wrapped = random.pick(&[0, start / 2, start - 1]);
+            store.set(slot, start, wrapped.wrapping_sub(start));
+        } else {
+            let wrapped = random.pick(&[0, 1, 5, length - 1]);
+            store.set(slot, wrapped.wrapping_sub(length), length);
         }
     }),
     ("short", |random, store, slot| {
@@ -175,7 +177,7 @@ pub const SAVED_SPOILS: [(&str, SavedSpoil); 13] = [
     }),
     ("length one off", |random, parts, at| {
         let length = parts[at].1.len() as u32;
-        let other = random.pick(&[length.saturating_sub(1), length + 1]);
+        let other = random.pick(&[length.checked_sub(1).unwrap_or(1), length + 1]);
         parts[at].0 = number(other, fewest(other));
     }),
     ("entry missing", |_, parts, at| {
