@@ -48,6 +48,8 @@ pub struct Group {
     pub name: &'static str,
     /// The refusal numbers that a run must reach, beside acceptance.
     pub refusals: &'static [u32],
+    /// How often it must reach each.
+    pub times: u64,
     pub default_cases: u64,
     pub run_case: RunCase,
 }
@@ -59,6 +61,7 @@ pub fn groups() -> Vec<Group> {
         Group {
             name: "bitmap_read",
             refusals: &[1, 2, 3, 4, 5, 6, 7, 8, 9, 10, 11],
+            times: 1,
             default_cases: 200_000,
             run_case: bitmap_read::run_case,
         },
@@ -66,6 +69,7 @@ pub fn groups() -> Vec<Group> {
         Group {
             name: "bitmap_write",
             refusals: &[12, 13],
+            times: 1,
             default_cases: 50_000,
             run_case: bitmap_write::run_case,
         },
@@ -73,16 +77,24 @@ pub fn groups() -> Vec<Group> {
         Group {
             name: "combine",
             refusals: &[1, 2, 3, 4, 5, 6, 7, 8, 9, 10, 11, 13],
+            times: 1,
             default_cases: 50_000,
             run_case: combine::run_case,
         },
         #[cfg(feature = "combine")]
-        Group { name: "plans", refusals: &[13], default_cases: 10_000, run_case: plans::run_case },
+        Group {
+            name: "plans",
+            refusals: &[13],
+            times: 1,
+            default_cases: 10_000,
+            run_case: plans::run_case,
+        },
         #[cfg(feature = "store")]
         Group {
             name: "store",
             refusals: &STORE_OUTCOMES,
-            default_cases: 10_000,
+            times: 30,
+            default_cases: 20_000,
             run_case: store::run_case,
         },
         #[cfg(feature = "numbers")]
@@ -90,6 +102,7 @@ pub fn groups() -> Vec<Group> {
             name: "numbers",
             // No refusals: what was found.
             refusals: &[1, 2],
+            times: 1,
             default_cases: 200_000,
             run_case: numbers::run_case,
         },
@@ -97,6 +110,7 @@ pub fn groups() -> Vec<Group> {
         Group {
             name: "rows",
             refusals: &[20, 21, 22, 23, 24, 25],
+            times: 1,
             default_cases: 200_000,
             run_case: rows::run_case,
         },
@@ -104,6 +118,7 @@ pub fn groups() -> Vec<Group> {
         Group {
             name: "buckets",
             refusals: &[20, 25, 30, 31, 32, 33, 34, 35, 36, 37],
+            times: 1,
             default_cases: 200_000,
             run_case: buckets::run_case,
         },
