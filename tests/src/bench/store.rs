@@ -25,9 +25,8 @@ type Save =
     unsafe extern "C" fn(*const u8, usize, *const u32, usize, *mut u8, usize, *mut usize) -> u32;
 type Load = unsafe extern "C" fn(*mut u8, usize, *mut u32, usize, *const u8, usize) -> u32;
 
-/// The slot that is put, fetched and dropped, and another one far from it.
+/// The slot that is put, fetched and dropped.
 const SLOT: usize = 31;
-const OTHER: usize = 57;
 
 pub fn run(print: Print) {
     let mut random = Random::new(6);
@@ -124,34 +123,41 @@ fn replace_line(bench: &Bench) -> Line {
 }
 
 /// Two puts: {0} in place of a large mask, and a large mask in place of another slot's {0}. No byte is
-/// spare, and the forms between the two slots have to be moved. The slots change their parts by turns.
+/// spare, so all forms that lie between the two have to be moved. Each time it is another slot that
+/// becomes {0}.
 fn swap_line(bench: &Bench) -> Line {
-    let small = form(&[0]);
-    let mut bench = Bench { name: bench.name, entries: bench.entries.clone(), moved: Vec::new() };
-    let large = std::mem::replace(&mut bench.entries[OTHER], small.clone());
-    bench.entries[SLOT] = large.clone();
+    let (small, large) = (form(&[0]), bench.entries[SLOT].clone());
+    let mut entries = vec![large.clone(); SLOTS];
+    entries[small_slot(0)] = small.clone();
+    let bench = Bench { name: bench.name, entries, moved: Vec::new() };
     let (mut first, mut second) = (bench.store(), bench.store());
-    let slots = [SLOT, OTHER];
     let (mut turn, mut second_turn) = (0, 0);
     let line = measure(
         "store put twice, large by small, small by large",
         &bench.input(),
         sides!(bv_store_put as Put),
         &mut |call| {
-            put(call, &mut first, slots[turn % 2], &small);
+            put(call, &mut first, small_slot(turn + 1), &small);
+            put(call, &mut first, small_slot(turn), &large);
             turn += 1;
-            put(call, &mut first, slots[turn % 2], &large);
         },
         &mut || {
-            put_second(&mut second, slots[second_turn % 2], &small);
+            put_second(&mut second, small_slot(second_turn + 1), &small);
+            put_second(&mut second, small_slot(second_turn), &large);
             second_turn += 1;
-            put_second(&mut second, slots[second_turn % 2], &large);
         },
     );
-    put_second(&mut second, slots[(turn + 1) % 2], &small);
-    put_second(&mut second, slots[turn % 2], &large);
-    assert!(first.entries() == second.entries());
+    for (store, turn) in [(first, turn), (second, second_turn)] {
+        let entries = store.entries().expect("a sound store");
+        let held = |slot| if slot == small_slot(turn) { &small } else { &large };
+        assert!((0..SLOTS).all(|slot| entries[slot] == *held(slot)));
+    }
     line
+}
+
+/// The slot that holds {0}: all slots in turn, far from each other.
+fn small_slot(turn: usize) -> usize {
+    (turn * 23 + SLOT) % SLOTS
 }
 
 fn put(call: Put, store: &mut Store, slot: usize, mask: &[u8]) {
