@@ -246,12 +246,8 @@ fn put(buffer: &mut [u8], directory: &mut [u32], slot: u32, bitmap: &[u8]) -> Re
         return Err(13);
     }
     let before = directory.to_vec();
-    entries[slot] = match () {
-        () if planted("stored-as-handed-in") && fits(buffer, &entries, bitmap) => bitmap.to_vec(),
-        () if planted("empty-set-as-empty-slot") && form.len() == 6 => Vec::new(),
-        () if planted("old-form-kept") && !held.is_empty() => held.clone(),
-        () => form,
-    };
+    let old_kept = planted("old-form-kept") && !held.is_empty();
+    entries[slot] = if old_kept { held.clone() } else { stored(buffer, &entries, bitmap, form) };
     if planted("neighbour-lost") && slot + 1 < SLOTS {
         entries[slot + 1].clear();
     }
@@ -267,8 +263,14 @@ fn total(entries: &Entries) -> usize {
     entries.iter().map(Vec::len).sum()
 }
 
-fn fits(buffer: &[u8], others: &Entries, bytes: &[u8]) -> bool {
-    total(others) + bytes.len() <= buffer.len()
+/// What the slot holds of a bitmap that is put.
+fn stored(buffer: &[u8], others: &Entries, bitmap: &[u8], form: Vec<u8>) -> Vec<u8> {
+    let fits = total(others) + bitmap.len() <= buffer.len();
+    match () {
+        () if planted("stored-as-handed-in") && fits => bitmap.to_vec(),
+        () if planted("empty-set-as-empty-slot") && form.len() == 6 => Vec::new(),
+        () => form,
+    }
 }
 
 /// Whether put is refused for room. The sizes are the slot, its new form's length, the length of the bytes

@@ -143,6 +143,27 @@ fn falling_places_with_gaps() {
     );
 }
 
+/// Slot, start and length, one after the other in the store below.
+const WRONG_PLACES: [(usize, u32, u32); 17] = [
+    (5, 13, 11),
+    (5, 13, 13),
+    (5, 12, 12),
+    (9, 13, 12),
+    (0, 3, 10),
+    (63, 13, 12),
+    (8, 3, 10),
+    (1, 30, 1),
+    (1, 0, 3),
+    (1, 3, 5),
+    (1, 30, 6),
+    (1, u32::MAX, 1),
+    (1, u32::MAX - 5, 6),
+    (1, u32::MAX - 2, 13),
+    (1, 3, u32::MAX - 2),
+    (1, 3, u32::MAX),
+    (9, u32::MAX, u32::MAX),
+];
+
 /// Bad stores by hand: the forms of {0} and {0, 34, 255} lie at 3 and at 13.
 #[test]
 fn bad_stores() {
@@ -153,26 +174,7 @@ fn bad_stores() {
     sound.set(9, 3, 10);
     sound.set(11, u32::MAX, 0);
     assert_eq!(sound.judged(), Ok(()));
-    let wrong = [
-        (5, 13, 11),
-        (5, 13, 13),
-        (5, 12, 12),
-        (9, 13, 12),
-        (0, 3, 10),
-        (63, 13, 12),
-        (8, 3, 10),
-        (1, 30, 1),
-        (1, 0, 3),
-        (1, 3, 5),
-        (1, 30, 6),
-        (1, u32::MAX, 1),
-        (1, u32::MAX - 5, 6),
-        (1, u32::MAX - 2, 13),
-        (1, 3, u32::MAX - 2),
-        (1, 3, u32::MAX),
-        (9, u32::MAX, u32::MAX),
-    ];
-    for (slot, start, length) in wrong {
+    for (slot, start, length) in WRONG_PLACES {
         let mut bad = sound.clone();
         bad.set(slot, start, length);
         assert_eq!(bad.judged(), Err(42), "{slot} {start} {length}");
