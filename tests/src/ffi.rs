@@ -486,6 +486,22 @@ pub mod store {
         lent.settle(code, &[&saved])
     }
 
+    /// Put into a store too large to be copied, without guard cells.
+    pub fn put_in_place(store: &mut Store, slot: u32, bitmap: &[u8]) -> u32 {
+        let Store { buffer, directory } = store;
+        let (to, numbers) = (directory.as_mut_ptr(), directory.len());
+        let (from, length) = (bitmap.as_ptr(), bitmap.len());
+        unsafe { bv_store_put(buffer.as_mut_ptr(), buffer.len(), to, numbers, slot, from, length) }
+    }
+
+    /// Load into a store too large to be copied, without guard cells.
+    pub fn load_in_place(store: &mut Store, saved: &[u8]) -> u32 {
+        let Store { buffer, directory } = store;
+        let (to, numbers) = (directory.as_mut_ptr(), directory.len());
+        let (from, length) = (saved.as_ptr(), saved.len());
+        unsafe { bv_store_load(buffer.as_mut_ptr(), buffer.len(), to, numbers, from, length) }
+    }
+
     /// The directory after the call; its buffer is an input.
     pub fn drop(store: &Store, slot: u32, random: &mut Random) -> Called<Vec<u32>> {
         let LentStore { buffer, mut directory } = LentStore::of(store, random);

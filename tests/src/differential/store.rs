@@ -7,7 +7,12 @@ use crate::generate::store::{call, edges, laid_for, spoil, Call, Kind, Store};
 use crate::generate::Random;
 use crate::reference::store as reference;
 
+mod huge;
+
 pub fn run_case(case: u64, random: &mut Random, tally: &mut Tally) -> Result<(), String> {
+    if case == huge::CASE {
+        return huge::run();
+    }
     if let Some(edge) = edge_number(case).and_then(edges::edge) {
         return run_edge(edge, random, tally);
     }

@@ -4,6 +4,7 @@ use super::bitmap::packing::{packed_by, Width};
 use super::bitmap::{self as masks};
 use super::numbers::{fewest, push_form};
 use super::Random;
+use std::alloc::{alloc_zeroed, Layout};
 
 pub mod edges;
 pub mod spoil;
@@ -71,6 +72,13 @@ impl Store {
         }
         Ok(entries)
     }
+}
+
+/// A buffer of zeros, over 4 GiB, of which no page is touched yet; none without address room for it.
+pub fn huge_buffer() -> Option<Vec<u8>> {
+    let length = (1 << 32) + 100;
+    let start = unsafe { alloc_zeroed(Layout::array::<u8>(length).ok()?) };
+    (!start.is_null()).then(|| unsafe { Vec::from_raw_parts(start, length, length) })
 }
 
 /// A call on a store.

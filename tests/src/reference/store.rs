@@ -1,8 +1,9 @@
 //! A store: document 02's (v), where it is called a shelf. Up to 64 numbered bitmaps, each as its one
-//! written form, in a lent buffer of under 4 GiB.
+//! written form, in a lent buffer.
 //!
 //! A lent directory of 128 numbers says where the forms lie: number 2i is where slot i starts in the
-//! buffer, number 2i + 1 is its length, 0 for an empty slot. Forms are kept towards the buffer's end.
+//! buffer, number 2i + 1 is its length, 0 for an empty slot. Forms are kept towards the buffer's end, as
+//! far as a start has 32 bits.
 
 use super::bitmap::{is_form, Bitmap};
 use super::{varint, Refusal};
@@ -66,6 +67,11 @@ fn falling(places: &[Place]) -> Vec<usize> {
     slots
 }
 
+/// Where forms end at most that are placed in the buffer.
+fn reach(buffer: &[u8]) -> usize {
+    buffer.len().min(u32::MAX as usize)
+}
+
 /// The slot holds the bitmap's form, in place of what it held.
 pub fn put(
     buffer: &mut [u8],
@@ -81,7 +87,7 @@ pub fn put(
     if others + form.len() > buffer.len() {
         return Err(13);
     }
-    let start = last_gap(&places, buffer.len(), form.len())
+    let start = last_gap(&places, reach(buffer), form.len())
         .unwrap_or_else(|| slide_up(buffer, &mut places) - form.len());
     places[slot] = Place { start, length: form.len() };
     buffer[places[slot].range()].copy_from_slice(&form);
@@ -95,15 +101,16 @@ pub fn put(
 fn last_gap(places: &[Place], room: usize, length: usize) -> Option<usize> {
     let mut end = room;
     for i in falling(places) {
-        if end - places[i].range().end >= length {
+        if end.saturating_sub(places[i].range().end) >= length {
             return Some(end - length);
         }
-        end = places[i].start;
+        end = end.min(places[i].start);
     }
     end.checked_sub(length)
 }
 
-/// Moves all forms up to the end of the buffer, without gaps, and returns where they then begin.
+/// Moves all forms up to the end of the buffer, without gaps, and returns where they then begin. A buffer
+/// over 4 GiB always has a gap instead.
 fn slide_up(buffer: &mut [u8], places: &mut [Place]) -> usize {
     let mut begin = buffer.len();
     for i in falling(places) {
@@ -168,7 +175,7 @@ pub fn load(buffer: &mut [u8], directory: &mut [u32], saved: &[u8]) -> Result<()
     if directory.len() != NUMBERS || total > buffer.len() {
         return Err(42);
     }
-    let mut start = buffer.len();
+    let mut start = reach(buffer);
     for (pair, entry) in directory.chunks_exact_mut(2).zip(entries) {
         start -= entry.len();
         buffer[start..start + entry.len()].copy_from_slice(entry);

@@ -2,20 +2,25 @@
 //! out of the buffer, and lays it out again from the front, in the order of the slots.
 
 use super::{planted, refuse, set};
-use crate::generate::store::{Entries, Store, NUMBERS, SLOTS};
+use crate::generate::store::{huge_buffer, Entries, Store, NUMBERS, SLOTS};
 use crate::reference::bitmap::Bitmap;
 use crate::reference::store as second;
 use judge::asked;
 use std::slice::{from_raw_parts, from_raw_parts_mut};
 use std::sync::OnceLock;
 
+mod forms;
 mod judge;
 mod saved;
 
 /// The faults, which the group of stores must find.
 pub fn faults() -> Vec<(&'static str, String)> {
-    let memory = MEMORY.iter().chain(&judge::FAULTS).chain(&saved::FAULTS);
-    memory.chain(&FAULTS).map(|name| ("store", name.to_string())).collect()
+    let mut lists: Vec<&[&str]> = vec![&FAULTS, &MEMORY, &judge::FAULTS, &forms::FAULTS];
+    lists.push(&saved::FAULTS);
+    if huge_buffer().is_some() {
+        lists.push(&judge::HUGE_FAULTS);
+    }
+    lists.concat().into_iter().map(|name| ("store", name.to_string())).collect()
 }
 
 /// Wrong programs in no fault's place: one that has no fault, but lays forms out otherwise.

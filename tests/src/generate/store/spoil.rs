@@ -1,6 +1,7 @@
 //! Bad stores and bad saved stores, each spoiled in one way.
 
-use super::super::bitmap::{damaged, sound};
+use super::super::bitmap::packing::{near_tie, nearly_form};
+use super::super::bitmap::{self as masks, damaged};
 use super::super::numbers::{bad_varint, fewest, push_form};
 use super::super::{damage_bytes, Random};
 use super::{form, set, Scale, Store, SLOTS};
@@ -129,13 +130,32 @@ fn other_slot(random: &mut Random, slot: usize) -> usize {
 /// An accepted bitmap that is not its set's form.
 pub fn other_writing(random: &mut Random) -> Vec<u8> {
     for _ in 0..20 {
-        let set = set(random, Scale::Small);
-        let bytes = sound(random, &set);
+        let set = match random.below(6) {
+            0 => near_tie(random),
+            1 => masks::set(random),
+            2 => over_chunks(random),
+            3 => (0..random.between(32, 700) as u32).collect(),
+            _ => set(random, Scale::Small),
+        };
+        let bytes = match random.below(3) {
+            0 => masks::sound(random, &set),
+            _ => nearly_form(random, &set),
+        };
         if bytes != form(&set) {
             return bytes;
         }
     }
     NOT_FORMS[0].to_vec()
+}
+
+/// A few members over some chunks.
+fn over_chunks(random: &mut Random) -> Vec<u32> {
+    let bound = 65_536 * random.between(1, 4);
+    let mut set: Vec<u32> =
+        (0..random.between(1, 99)).map(|_| random.below(bound) as u32).collect();
+    set.sort_unstable();
+    set.dedup();
+    set
 }
 
 /// The sound store, spoiled in one way.

@@ -1,10 +1,10 @@
 //! Wrong judges of a store, and of slot numbers.
 
 use super::super::planted;
+use super::forms::is_form;
 use crate::generate::store::{Entries, NUMBERS, SLOTS};
-use crate::reference::bitmap;
 
-pub const FAULTS: [&str; 25] = [
+pub const FAULTS: [&str; 24] = [
     "slot-63-refused",
     "slot-64-accepted",
     "slot-in-a-byte",
@@ -22,7 +22,6 @@ pub const FAULTS: [&str; 25] = [
     "end-one-past-accepted",
     "end-of-the-buffer-refused",
     "forms-not-judged",
-    "accepted-is-enough",
     "version-alone-judged",
     "overlap-not-judged",
     "overlap-of-neighbours-only",
@@ -31,6 +30,9 @@ pub const FAULTS: [&str; 25] = [
     "one-place-twice-accepted",
     "touching-as-overlap",
 ];
+
+/// Faults that are seen in a buffer over 4 GiB alone.
+pub const HUGE_FAULTS: [&str; 2] = ["end-in-32-bits", "buffer-in-32-bits"];
 
 /// The slot's number, or 40.
 pub fn slot_index(slot: u32) -> Result<usize, u32> {
@@ -121,15 +123,16 @@ impl Place {
         {
             return Ok(());
         }
-        if self.end() + u64::from(planted("end-of-the-buffer-refused")) > room {
+        let long = planted("end-in-32-bits") && self.end() > u64::from(u32::MAX)
+            || planted("buffer-in-32-bits") && self.end() > room % (1 << 32);
+        if long || self.end() + u64::from(planted("end-of-the-buffer-refused")) > room {
             return Err(42);
         }
         let bytes = &buffer[self.start as usize..self.end() as usize];
         let sound = match () {
             () if planted("forms-not-judged") => true,
-            () if planted("accepted-is-enough") => bitmap::check(bytes).is_ok(),
             () if planted("version-alone-judged") => bytes.len() > 5 && bytes[0] == 1,
-            () => bitmap::is_form(bytes),
+            () => is_form(bytes),
         };
         if sound {
             Ok(())

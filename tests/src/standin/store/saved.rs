@@ -1,6 +1,7 @@
 //! Wrong programs that save and load.
 
 use super::super::planted;
+use super::forms::is_form;
 use super::judge::judge;
 use super::{lay, total};
 use crate::generate::numbers::{fewest, push_form};
@@ -8,11 +9,12 @@ use crate::generate::store::{Entries, NUMBERS, SLOTS};
 use crate::reference::bitmap::{self, Bitmap};
 use crate::reference::varint::{self, Number};
 
-pub const FAULTS: [&str; 30] = [
+pub const FAULTS: [&str; 32] = [
     "save-in-order-of-places",
     "save-pads-lengths",
     "save-skips-empty-slots",
     "save-length-in-a-byte",
+    "save-length-in-two-bytes",
     "save-high-group-first",
     "save-63-entries",
     "save-room-one-more",
@@ -30,6 +32,7 @@ pub const FAULTS: [&str; 30] = [
     "load-forms-not-judged",
     "load-takes-other-numbers",
     "load-length-wraps",
+    "load-length-of-three-bytes-refused",
     "load-judges-the-old-store",
     "load-refuses-room-with-13",
     "load-full-buffer-refused",
@@ -85,6 +88,9 @@ fn saved(entries: &Entries) -> Vec<u8> {
             () if planted("save-skips-empty-slots") && length == 0 => continue,
             () if planted("save-pads-lengths") => push_form(length, 5, &mut out),
             () if planted("save-length-in-a-byte") => out.push(length as u8),
+            () if planted("save-length-in-two-bytes") => {
+                push_form(length, fewest(length).min(2), &mut out)
+            }
             () => push_form(length, fewest(length), &mut out),
         }
         if planted("save-high-group-first") {
@@ -163,7 +169,8 @@ fn entry_at(saved: &[u8], place: usize) -> Option<(std::ops::Range<usize>, usize
     let Number { value, next, shortest } = varint::read_marked(saved, place).ok()?;
     let padded = planted("load-takes-padded-lengths")
         || planted("load-takes-a-padded-0") && value == 0 && next == place + 2;
-    if !shortest && !padded {
+    let refused = planted("load-length-of-three-bytes-refused") && next > place + 2;
+    if !shortest && !padded || refused {
         return None;
     }
     let end = next + value as usize;
@@ -186,7 +193,7 @@ fn judged(entry: &[u8]) -> Option<Vec<u8>> {
         () if planted("load-rewrites-accepted-bytes") => return form(),
         () if planted("load-takes-accepted-bytes") => bitmap::check(entry).is_ok(),
         () if planted("load-forms-not-judged") => true,
-        () => bitmap::is_form(entry),
+        () => is_form(entry),
     };
     sound.then(|| entry.to_vec())
 }
