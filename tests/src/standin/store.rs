@@ -15,15 +15,13 @@ mod saved;
 
 /// The faults, which the group of stores must find.
 pub fn faults() -> Vec<(&'static str, String)> {
-    let mut lists: Vec<&[&str]> = vec![&FAULTS, &MEMORY, &judge::FAULTS, &forms::FAULTS];
-    lists.push(&saved::FAULTS);
-    if huge_buffer().is_some() {
-        lists.push(&judge::HUGE_FAULTS);
-    }
+    let huge: &[&str] = if huge_buffer().is_some() { &judge::HUGE_FAULTS } else { &[] };
+    let lists: [&[&str]; 6] =
+        [&FAULTS, &MEMORY, &judge::FAULTS, &forms::FAULTS, &saved::FAULTS, huge];
     lists.concat().into_iter().map(|name| ("store", name.to_string())).collect()
 }
 
-/// Wrong programs in no fault's place: one that has no fault, but lays forms out otherwise.
+/// No fault: a program that is right, and lays forms out otherwise than the second program.
 const OTHER_LAYOUT: &str = "other-layout";
 
 /// Writing where nothing may be written.
