@@ -7,7 +7,8 @@ use super::super::{damage_bytes, Random};
 use super::{form, set, Scale, Store, SLOTS};
 
 /// Accepted bitmaps that are no forms: {0} with an empty container behind, also in 12 bytes; with an
-/// exception whose part is 0; in eight bits; {256} with b 0; 0 to 31 with descriptor 33; b2 without exceptions; m 0 for 1.
+/// exception whose part is 0; in eight bits; {256} with b 0; 0 to 31 with descriptor 33; {0} with b2 and
+/// no exceptions; with m 0.
 pub const NOT_FORMS: [&[u8]; 8] = [
     &[1, 1, 0, 0, 2, 0, 1, 0, 0, 0x80, 0],
     &[1, 1, 0, 0, 2, 0, 0x10, 1, 0, 0, 0x80, 0],
