@@ -12,7 +12,7 @@ fn main() {
     if has("CROARING") {
         println!("cargo:rustc-link-lib=roaring");
     }
-    let groups = ["READ", "WRITE", "COMBINE", "NUMBERS", "ROWS", "BUCKETS"];
+    let groups = ["READ", "WRITE", "COMBINE", "STORE", "NUMBERS", "ROWS", "BUCKETS"];
     if has("STANDIN") || !groups.iter().any(|group| has(group)) {
         return;
     }

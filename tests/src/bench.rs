@@ -19,6 +19,8 @@ mod earlier;
 mod numbers;
 #[cfg(feature = "read")]
 mod read;
+#[cfg(feature = "store")]
+mod store;
 #[cfg(any(feature = "rows", feature = "buckets"))]
 mod tables;
 #[cfg(feature = "write")]
@@ -56,6 +58,8 @@ pub fn groups() -> Vec<fn(Print)> {
         write::run,
         #[cfg(feature = "combine")]
         combine::run,
+        #[cfg(feature = "store")]
+        store::run,
         #[cfg(feature = "numbers")]
         numbers::run,
         #[cfg(feature = "rows")]

@@ -20,6 +20,8 @@ mod numbers;
 mod plans;
 #[cfg(feature = "rows")]
 mod rows;
+#[cfg(feature = "store")]
+mod store;
 
 /// How often each refusal number was reached; 0 stands for acceptance.
 #[derive(Default)]
@@ -29,6 +31,12 @@ impl Tally {
     pub fn count<T>(&mut self, outcome: &Result<T, u32>) {
         let number = outcome.as_ref().err().copied().unwrap_or(0);
         *self.0.entry(number).or_default() += 1;
+    }
+
+    /// Counts the outcome of one of several calls: its number, and 100 for each call before it.
+    pub fn count_call<T>(&mut self, call: u32, outcome: &Result<T, u32>) {
+        let number = outcome.as_ref().err().copied().unwrap_or(0);
+        *self.0.entry(100 * call + number).or_default() += 1;
     }
 }
 
@@ -40,6 +48,8 @@ pub struct Group {
     pub name: &'static str,
     /// The refusal numbers that a run must reach, beside acceptance.
     pub refusals: &'static [u32],
+    /// How often it must reach each.
+    pub times: u64,
     pub default_cases: u64,
     pub run_case: RunCase,
 }
@@ -51,6 +61,7 @@ pub fn groups() -> Vec<Group> {
         Group {
             name: "bitmap_read",
             refusals: &[1, 2, 3, 4, 5, 6, 7, 8, 9, 10, 11],
+            times: 1,
             default_cases: 200_000,
             run_case: bitmap_read::run_case,
         },
@@ -58,6 +69,7 @@ pub fn groups() -> Vec<Group> {
         Group {
             name: "bitmap_write",
             refusals: &[12, 13],
+            times: 1,
             default_cases: 50_000,
             run_case: bitmap_write::run_case,
         },
@@ -65,16 +77,32 @@ pub fn groups() -> Vec<Group> {
         Group {
             name: "combine",
             refusals: &[1, 2, 3, 4, 5, 6, 7, 8, 9, 10, 11, 13],
+            times: 1,
             default_cases: 50_000,
             run_case: combine::run_case,
         },
         #[cfg(feature = "combine")]
-        Group { name: "plans", refusals: &[13], default_cases: 10_000, run_case: plans::run_case },
+        Group {
+            name: "plans",
+            refusals: &[13],
+            times: 1,
+            default_cases: 10_000,
+            run_case: plans::run_case,
+        },
+        #[cfg(feature = "store")]
+        Group {
+            name: "store",
+            refusals: &STORE_OUTCOMES,
+            times: 30,
+            default_cases: 20_000,
+            run_case: store::run_case,
+        },
         #[cfg(feature = "numbers")]
         Group {
             name: "numbers",
             // No refusals: what was found.
             refusals: &[1, 2],
+            times: 1,
             default_cases: 200_000,
             run_case: numbers::run_case,
         },
@@ -82,6 +110,7 @@ pub fn groups() -> Vec<Group> {
         Group {
             name: "rows",
             refusals: &[20, 21, 22, 23, 24, 25],
+            times: 1,
             default_cases: 200_000,
             run_case: rows::run_case,
         },
@@ -89,11 +118,19 @@ pub fn groups() -> Vec<Group> {
         Group {
             name: "buckets",
             refusals: &[20, 25, 30, 31, 32, 33, 34, 35, 36, 37],
+            times: 1,
             default_cases: 200_000,
             run_case: buckets::run_case,
         },
     ]
 }
+
+/// Put, then from 100 on fetch, from 200 on drop, from 300 on save, from 400 on load.
+#[cfg(feature = "store")]
+const STORE_OUTCOMES: [u32; 28] = [
+    1, 2, 3, 4, 5, 6, 7, 8, 9, 10, 11, 13, 40, 42, 100, 113, 140, 141, 142, 200, 240, 241, 242,
+    300, 313, 342, 400, 442,
+];
 
 /// The cases from here on are the edges of a group, as many as it has.
 const FIRST_EDGE: u64 = 1000;

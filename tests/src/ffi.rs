@@ -279,7 +279,7 @@ pub mod read {
 }
 
 /// Lends an output of `room` bytes and gives what the call wrote into it.
-#[cfg(any(feature = "write", feature = "combine"))]
+#[cfg(any(feature = "write", feature = "combine", feature = "store"))]
 fn written(
     inputs: &[&dyn Memory],
     room: usize,
@@ -371,6 +371,180 @@ pub mod combine {
         let call = call(operation);
         written(&[a, b], room, random, |out, room, length| unsafe {
             call(a.pointer(), a.length, b.pointer(), b.length, out, room, length)
+        })
+    }
+}
+
+#[cfg(feature = "store")]
+pub mod store {
+    use super::*;
+    use crate::generate::store::Store;
+
+    mod calls {
+        extern "C" {
+            pub fn bv_store_put(
+                buffer: *mut u8,
+                len: usize,
+                directory: *mut u32,
+                numbers: usize,
+                slot: u32,
+                bitmap: *const u8,
+                bitmap_len: usize,
+            ) -> u32;
+            pub fn bv_store_fetch(
+                buffer: *const u8,
+                len: usize,
+                directory: *const u32,
+                numbers: usize,
+                slot: u32,
+                out: *mut u8,
+                room: usize,
+                length: *mut usize,
+            ) -> u32;
+            pub fn bv_store_drop(
+                buffer: *const u8,
+                len: usize,
+                directory: *mut u32,
+                numbers: usize,
+                slot: u32,
+            ) -> u32;
+            pub fn bv_store_save(
+                buffer: *const u8,
+                len: usize,
+                directory: *const u32,
+                numbers: usize,
+                out: *mut u8,
+                room: usize,
+                length: *mut usize,
+            ) -> u32;
+            pub fn bv_store_load(
+                buffer: *mut u8,
+                len: usize,
+                directory: *mut u32,
+                numbers: usize,
+                saved: *const u8,
+                saved_len: usize,
+            ) -> u32;
+        }
+    }
+    pub use calls::*;
+
+    /// A store that is lent to one call.
+    struct LentStore {
+        buffer: Lent<u8>,
+        directory: Lent<u32>,
+    }
+
+    impl LentStore {
+        fn of(store: &Store, random: &mut Random) -> LentStore {
+            let buffer = Lent::input("buffer", &store.buffer, random);
+            LentStore { buffer, directory: Lent::input("directory", &store.directory, random) }
+        }
+
+        /// What a call left that may change the whole store.
+        fn settle(&self, code: u32, inputs: &[&dyn Memory]) -> Called<Store> {
+            let (buffer, directory) = (&self.buffer, &self.directory);
+            let outputs: [(&dyn Memory, usize); 2] =
+                [(buffer, buffer.length), (directory, directory.length)];
+            settle(code, inputs, &outputs, || Store {
+                buffer: buffer.content().to_vec(),
+                directory: directory.content().to_vec(),
+            })
+        }
+    }
+
+    pub fn put(store: &Store, slot: u32, bitmap: &[u8], random: &mut Random) -> Called<Store> {
+        let mut lent = LentStore::of(store, random);
+        let bitmap = Lent::input("bitmap", bitmap, random);
+        let code = unsafe {
+            bv_store_put(
+                lent.buffer.pointer_mut(),
+                lent.buffer.length,
+                lent.directory.pointer_mut(),
+                lent.directory.length,
+                slot,
+                bitmap.pointer(),
+                bitmap.length,
+            )
+        };
+        lent.settle(code, &[&bitmap])
+    }
+
+    pub fn load(store: &Store, saved: &[u8], random: &mut Random) -> Called<Store> {
+        let mut lent = LentStore::of(store, random);
+        let saved = Lent::input("saved", saved, random);
+        let code = unsafe {
+            bv_store_load(
+                lent.buffer.pointer_mut(),
+                lent.buffer.length,
+                lent.directory.pointer_mut(),
+                lent.directory.length,
+                saved.pointer(),
+                saved.length,
+            )
+        };
+        lent.settle(code, &[&saved])
+    }
+
+    /// Put into a store too large to be copied, without guard cells.
+    pub fn put_in_place(store: &mut Store, slot: u32, bitmap: &[u8]) -> u32 {
+        let Store { buffer, directory } = store;
+        let (to, numbers) = (directory.as_mut_ptr(), directory.len());
+        let (from, length) = (bitmap.as_ptr(), bitmap.len());
+        unsafe { bv_store_put(buffer.as_mut_ptr(), buffer.len(), to, numbers, slot, from, length) }
+    }
+
+    /// Load into a store too large to be copied, without guard cells.
+    pub fn load_in_place(store: &mut Store, saved: &[u8]) -> u32 {
+        let Store { buffer, directory } = store;
+        let (to, numbers) = (directory.as_mut_ptr(), directory.len());
+        let (from, length) = (saved.as_ptr(), saved.len());
+        unsafe { bv_store_load(buffer.as_mut_ptr(), buffer.len(), to, numbers, from, length) }
+    }
+
+    /// The directory after the call; its buffer is an input.
+    pub fn drop(store: &Store, slot: u32, random: &mut Random) -> Called<Vec<u32>> {
+        let LentStore { buffer, mut directory } = LentStore::of(store, random);
+        let code = unsafe {
+            bv_store_drop(
+                buffer.pointer(),
+                buffer.length,
+                directory.pointer_mut(),
+                directory.length,
+                slot,
+            )
+        };
+        settle(code, &[&buffer], &[(&directory, directory.length)], || directory.content().to_vec())
+    }
+
+    pub fn fetch(store: &Store, slot: u32, room: usize, random: &mut Random) -> Called<Vec<u8>> {
+        let LentStore { buffer, directory } = LentStore::of(store, random);
+        written(&[&buffer, &directory], room, random, |out, room, length| unsafe {
+            bv_store_fetch(
+                buffer.pointer(),
+                buffer.length,
+                directory.pointer(),
+                directory.length,
+                slot,
+                out,
+                room,
+                length,
+            )
+        })
+    }
+
+    pub fn save(store: &Store, room: usize, random: &mut Random) -> Called<Vec<u8>> {
+        let LentStore { buffer, directory } = LentStore::of(store, random);
+        written(&[&buffer, &directory], room, random, |out, room, length| unsafe {
+            bv_store_save(
+                buffer.pointer(),
+                buffer.length,
+                directory.pointer(),
+                directory.length,
+                out,
+                room,
+                length,
+            )
         })
     }
 }

@@ -5,6 +5,7 @@ pub mod buckets;
 pub mod numbers;
 pub mod rows;
 pub mod schema;
+pub mod store;
 
 /// SplitMix64.
 #[derive(Clone)]

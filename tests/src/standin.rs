@@ -10,6 +10,7 @@ use std::sync::OnceLock;
 mod explain;
 mod numbers;
 mod places;
+mod store;
 mod widths;
 
 /// Whether the fault of this name is planted.
@@ -26,6 +27,9 @@ pub fn faults() -> Vec<(&'static str, String)> {
         ("bitmap_write", 12..=13),
         ("combine", 1..=11),
         ("combine", 13..=13),
+        ("store", 1..=11),
+        ("store", 13..=13),
+        ("store", 40..=42),
         ("rows", 20..=25),
         ("buckets", 20..=20),
         ("buckets", 25..=25),
@@ -40,6 +44,7 @@ pub fn faults() -> Vec<(&'static str, String)> {
     faults.extend(explain::faults().into_iter().map(|name| ("bitmap_read", name)));
     faults.extend(widths::faults());
     faults.extend(numbers::faults());
+    faults.extend(store::faults());
     faults
 }
 

@@ -8,7 +8,7 @@ use second_program::differential::{case_random, groups, Group, Tally};
 use std::process::ExitCode;
 use std::time::Instant;
 
-/// From this number of cases on, a refusal number that was never reached is a failure.
+/// From this number of cases on, a refusal number that was reached too seldom is a failure.
 const ENOUGH: u64 = 2_000;
 
 struct Arguments {
@@ -92,8 +92,9 @@ fn run_group(group: &Group, arguments: &Arguments) -> Result<(), String> {
 
 fn coverage(group: &Group, tally: &Tally) -> Result<(), String> {
     for number in std::iter::once(&0).chain(group.refusals) {
-        if !tally.0.contains_key(number) {
-            return Err(format!("{}: outcome {number} was never reached", group.name));
+        let times = tally.0.get(number).copied().unwrap_or(0);
+        if times < group.times {
+            return Err(format!("{}: outcome {number} was reached {times} times", group.name));
         }
     }
     Ok(())

@@ -2,6 +2,7 @@
 //! cost of document 02's (iii).
 
 use super::Refusal;
+use std::borrow::Cow;
 
 pub mod explain;
 
@@ -15,6 +16,8 @@ const CHUNK: usize = 256;
 pub struct Bitmap<'a> {
     /// For each container its size in bytes: 0 to 31 sparse, 32 dense.
     sizes: Vec<u8>,
+    /// The largest descriptor.
+    largest: u16,
     containers: &'a [u8],
     cardinality: u32,
 }
@@ -34,9 +37,12 @@ impl<'a> Bitmap<'a> {
             return Err(3);
         }
         let mut sizes = vec![0; count];
+        let mut largest = 0;
         let mut rest = &bytes[6..];
         for chunk in sizes.chunks_mut(CHUNK) {
-            rest = read_sizes(rest, chunk)?;
+            let (next, in_chunk) = read_sizes(rest, chunk)?;
+            rest = next;
+            largest = largest.max(in_chunk);
         }
         let total: usize = sizes.iter().map(|&size| usize::from(size)).sum();
         if rest.len() != total {
@@ -45,7 +51,33 @@ impl<'a> Bitmap<'a> {
         if count_members(&sizes, rest)? != cardinality {
             return Err(11);
         }
-        Ok(Bitmap { sizes, containers: rest, cardinality })
+        Ok(Bitmap { sizes, largest, containers: rest, cardinality })
+    }
+
+    /// Whether the bytes, which are the bitmap's own, are the one written form of its set: then each
+    /// chunk's three first bytes say so, as they leave no choice in what follows.
+    fn is_form(&self, bytes: &[u8]) -> bool {
+        if self.largest > u16::from(DENSE) || self.sizes.last() == Some(&0) {
+            return false;
+        }
+        let mut rest = &bytes[6..];
+        self.sizes.chunks(CHUNK).all(|chunk| {
+            let packing = choose_packing(chunk);
+            let same = rest[..3] == packing.head();
+            rest = rest.get(3 + packing.length(chunk.len())..).unwrap_or_default();
+            same
+        })
+    }
+
+    /// The one written form of the bitmap's set; the bytes are the bitmap's own.
+    pub fn form<'b>(&self, bytes: &'b [u8]) -> Cow<'b, [u8]> {
+        if self.is_form(bytes) {
+            return Cow::Borrowed(bytes);
+        }
+        let used = self.sizes.iter().rposition(|&size| size > 0).map_or(0, |last| last + 1);
+        let mut form = form_head(&self.sizes[..used], self.cardinality);
+        form.extend_from_slice(self.containers);
+        Cow::Owned(form)
     }
 
     pub fn cardinality(&self) -> u32 {
@@ -124,6 +156,11 @@ impl<'a> Bitmap<'a> {
     }
 }
 
+/// Whether the bytes are accepted and are the one written form of their set.
+pub fn is_form(bytes: &[u8]) -> bool {
+    Bitmap::judge(bytes).is_ok_and(|bitmap| bitmap.is_form(bytes))
+}
+
 /// What a page call leaves: the place, the mark, and how many members it gave.
 #[derive(Clone, Copy, Debug, PartialEq, Eq)]
 pub struct Page {
@@ -152,8 +189,9 @@ pub fn page(bytes: &[u8], place: u32, finished: bool, list: &mut [u32]) -> Resul
     Ok(bitmap.page(place, list))
 }
 
-/// Reads one chunk of descriptors as container sizes, and returns the bytes after it.
-fn read_sizes<'a>(bytes: &'a [u8], sizes: &mut [u8]) -> Result<&'a [u8], Refusal> {
+/// Reads one chunk of descriptors as container sizes, and returns the bytes after it and the largest
+/// descriptor.
+fn read_sizes<'a>(bytes: &'a [u8], sizes: &mut [u8]) -> Result<(&'a [u8], u16), Refusal> {
     let mut values = [0; CHUNK];
     let values = &mut values[..sizes.len()];
     let rest = unpack_chunk(bytes, values)?;
@@ -165,7 +203,7 @@ fn read_sizes<'a>(bytes: &'a [u8], sizes: &mut [u8]) -> Result<&'a [u8], Refusal
     if largest > 63 {
         return Err(8);
     }
-    Ok(rest)
+    Ok((rest, largest))
 }
 
 /// Decodes a chunk of `values.len()` values (1 to 256), and returns the bytes after it: 4, 5, 6 and 7.
@@ -383,6 +421,16 @@ fn write_form(
     cardinality: u32,
     out: &mut [u8],
 ) -> Result<usize, Refusal> {
+    let head = form_head(sizes, cardinality);
+    let length = head.len() + containers.len();
+    let form = out.get_mut(..length).ok_or(13u32)?;
+    form[..head.len()].copy_from_slice(&head);
+    form[head.len()..].copy_from_slice(containers);
+    Ok(length)
+}
+
+/// The header and the descriptors of a form.
+fn form_head(sizes: &[u8], cardinality: u32) -> Vec<u8> {
     let mut head = Vec::with_capacity(6 + sizes.len() + 3 * sizes.len().div_ceil(CHUNK));
     head.push(1);
     head.extend_from_slice(&cardinality.to_le_bytes()[..3]);
@@ -390,11 +438,7 @@ fn write_form(
     for chunk in sizes.chunks(CHUNK) {
         pack_chunk(chunk, &mut head);
     }
-    let length = head.len() + containers.len();
-    let form = out.get_mut(..length).ok_or(13u32)?;
-    form[..head.len()].copy_from_slice(&head);
-    form[head.len()..].copy_from_slice(containers);
-    Ok(length)
+    head
 }
 
 /// How a chunk is packed: b1, b2, e and m.
@@ -403,6 +447,20 @@ struct Packing {
     part_width: usize,
     exceptions: usize,
     least: u8,
+}
+
+impl Packing {
+    /// The chunk's three first bytes.
+    fn head(&self) -> [u8; 3] {
+        let widths = self.primary_width as u8 | (self.part_width as u8) << 4;
+        [widths, self.exceptions as u8, self.least]
+    }
+
+    /// The length of the arrays of n descriptors.
+    fn length(&self, n: usize) -> usize {
+        let parts = (self.exceptions * self.part_width).div_ceil(8);
+        (n * self.primary_width).div_ceil(8) + self.exceptions + parts
+    }
 }
 
 fn width(value: u8) -> usize {
@@ -439,9 +497,7 @@ fn choose_packing(values: &[u8]) -> Packing {
 fn pack_chunk(values: &[u8], out: &mut Vec<u8>) {
     let packing = choose_packing(values);
     let b1 = packing.primary_width;
-    out.push(b1 as u8 | (packing.part_width as u8) << 4);
-    out.push(packing.exceptions as u8);
-    out.push(packing.least);
+    out.extend_from_slice(&packing.head());
     let value = |i: usize| u32::from(values[i] - packing.least);
     pack(values.len(), b1, |i| value(i) & ((1 << b1) - 1), out);
     if packing.exceptions == 0 {

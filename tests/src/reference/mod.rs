@@ -6,6 +6,7 @@ pub mod bitmap;
 pub mod buckets;
 pub mod rows;
 pub mod schema;
+pub mod store;
 pub mod varint;
 
 #[cfg(test)]

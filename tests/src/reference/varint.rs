@@ -59,3 +59,17 @@ pub fn read_marked(bytes: &[u8], place: usize) -> Result<Number, Fault> {
 fn is_shortest(number: &[u8]) -> bool {
     number.len() == 1 || !number.ends_with(&[0])
 }
+
+/// The number's shortest form, and how many bytes it has.
+pub fn shortest(value: u32) -> ([u8; 5], usize) {
+    let (mut form, mut length, mut rest) = ([0; 5], 0, value);
+    loop {
+        form[length] = rest as u8 & 0x7F;
+        rest >>= 7;
+        length += 1;
+        if rest == 0 {
+            return (form, length);
+        }
+        form[length - 1] |= 0x80;
+    }
+}

@@ -2,8 +2,8 @@
 //! by a cost that is nearly right.
 
 use super::{
-    bit_width, chunk_of, containers, density, member_count, push_members, used_containers, Chunk,
-    Draft, CHUNK,
+    any_chunk, bit_width, chunk_of, containers, density, member_count, push_members,
+    used_containers, Chunk, Draft, CHUNK,
 };
 use crate::generate::Random;
 
@@ -65,6 +65,58 @@ fn chunk_of_width(descriptors: &[u8], b1: usize) -> Chunk {
     let each = bit_widths(descriptors);
     let offsets = (0..each.len()).filter(|&i| each[i] > b1).map(|i| i as u8).collect();
     chunk_of(descriptors, least, b1, offsets, 0)
+}
+
+/// A sound bitmap of the set that differs from its form in one chunk, or in empty containers behind it;
+/// at times not at all.
+pub fn nearly_form(random: &mut Random, set: &[u32]) -> Vec<u8> {
+    let behind = if random.once_in(6) { random.pick(&[1, 2, 255, 256]) } else { 0 };
+    let containers = containers(set, (used_containers(set) + behind).min(8192));
+    let mut descriptors: Vec<u8> = containers.iter().map(|c| c.len() as u8).collect();
+    let count = descriptors.len().div_ceil(CHUNK);
+    let other = if count == 0 || behind > 0 { count } else { random.below(count) };
+    let mut chunks = Vec::new();
+    for (index, chunk) in descriptors.chunks_mut(CHUNK).enumerate() {
+        if index == other {
+            chunks.push(other_chunk(random, chunk));
+            continue;
+        }
+        let best = widths(chunk).into_iter().min_by_key(Width::cost).map_or(0, |width| width.b);
+        chunks.push(chunk_of_width(chunk, best));
+    }
+    Draft::with(set, containers, chunks).bytes()
+}
+
+/// A chunk packed in another way than in the form, in one respect: b1, one more exception, b2, m or the
+/// low bits of one dense descriptor; or in any way.
+fn other_chunk(random: &mut Random, descriptors: &mut [u8]) -> Chunk {
+    let choice = random.below(7);
+    let dense: Vec<usize> = (0..descriptors.len()).filter(|&i| descriptors[i] == 32).collect();
+    if choice == 0 && !dense.is_empty() {
+        descriptors[random.pick(&dense)] += random.between(1, 31) as u8;
+    }
+    let widths = widths(descriptors);
+    let least = descriptors.iter().copied().min().unwrap_or(0);
+    let best = widths.iter().min_by_key(|width| width.cost()).map_or(0, |width| width.b);
+    let each = bit_widths(descriptors);
+    let mut offsets: Vec<u8> =
+        (0..each.len()).filter(|&i| each[i] > best).map(|i| i as u8).collect();
+    match choice {
+        1 | 2 => return chunk_of_width(descriptors, random.pick(&widths).b),
+        3 if offsets.len() < 255 && best < 8 => {
+            offsets.push(random.below(each.len()) as u8);
+            offsets.sort_unstable();
+            offsets.dedup();
+        }
+        4 => return chunk_of(descriptors, least, best, offsets, random.between(1, 8)),
+        5 if least > 0 && each.iter().all(|&width| width == 0) => {
+            let m = random.below(least.into()) as u8;
+            return chunk_of(descriptors, m, bit_width((least - m).into()), Vec::new(), 0);
+        }
+        6 => return any_chunk(random, descriptors),
+        _ => {}
+    }
+    chunk_of(descriptors, least, best, offsets, 0)
 }
 
 /// The bitmap whose b1 are those of least cost, the smaller one on a tie.

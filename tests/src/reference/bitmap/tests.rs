@@ -222,3 +222,27 @@ fn probe_and_rank_take_any_number() {
     assert_eq!(rank(&form, 255), Ok(2));
     assert_eq!(rank(&form, u32::MAX), Ok(4));
 }
+
+/// What is judged chunk by chunk is the same as writing the members again.
+#[test]
+fn forms_among_accepted_bitmaps() {
+    use crate::generate::bitmap as generate;
+    let mut random = crate::generate::Random::new(14);
+    let mut counts = [0; 3];
+    for _ in 0..4000 {
+        let set = generate::set(&mut random);
+        let bytes = match random.below(3) {
+            0 => form(&set),
+            1 => generate::sound(&mut random, &set),
+            _ => generate::damaged(&mut random, &set),
+        };
+        let judged = Bitmap::judge(&bytes);
+        let rewritten = judged.as_ref().map(|bitmap| form(&bitmap.members()));
+        assert_eq!(is_form(&bytes), rewritten.as_ref() == Ok(&bytes));
+        if let Ok(bitmap) = &judged {
+            assert_eq!(Ok(bitmap.form(&bytes).into_owned()), rewritten.map_err(|_| ()));
+        }
+        counts[if judged.is_err() { 0 } else { 1 + usize::from(is_form(&bytes)) }] += 1;
+    }
+    assert!(counts.iter().all(|&count| count > 800), "{counts:?}");
+}

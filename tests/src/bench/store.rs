@@ -1,0 +1,317 @@
+//! Calls on a store of 64 masks in a buffer without a spare byte.
+
+use super::{form, measure, random_set, Line, Print};
+use crate::ffi::store::{
+    bv_store_drop, bv_store_fetch, bv_store_load, bv_store_put, bv_store_save,
+};
+use crate::generate::store::{saved, total, Entries, Store, SLOTS};
+use crate::generate::Random;
+use crate::reference::store as reference;
+use std::hint::black_box;
+
+type Put = unsafe extern "C" fn(*mut u8, usize, *mut u32, usize, u32, *const u8, usize) -> u32;
+type Fetch = unsafe extern "C" fn(
+    *const u8,
+    usize,
+    *const u32,
+    usize,
+    u32,
+    *mut u8,
+    usize,
+    *mut usize,
+) -> u32;
+type Drop = unsafe extern "C" fn(*const u8, usize, *mut u32, usize, u32) -> u32;
+type Save =
+    unsafe extern "C" fn(*const u8, usize, *const u32, usize, *mut u8, usize, *mut usize) -> u32;
+type Load = unsafe extern "C" fn(*mut u8, usize, *mut u32, usize, *const u8, usize) -> u32;
+
+/// The slot that is put, fetched and dropped.
+const SLOT: usize = 31;
+
+pub fn run(print: Print) {
+    let mut random = Random::new(6);
+    for (name, chance) in [("0.05 %", 0.0005), ("5 %", 0.05), ("20 %", 0.2), ("50 %", 0.5)] {
+        let sets = [(); 8].map(|()| random_set(&mut random, 8192, chance));
+        let masks = sets.each_ref().map(|set| form(set));
+        let entries: Entries = (0..SLOTS).map(|slot| masks[slot % masks.len()].clone()).collect();
+        let bench = Bench { name, moved: form(&moved(&sets[SLOT % sets.len()])), entries };
+        let lines =
+            [put_line, replace_line, swap_line, fetch_line, drop_line, save_line, load_line];
+        for line in lines {
+            print(line(&bench));
+        }
+        #[cfg(feature = "read")]
+        print(judge_line(&bench));
+    }
+}
+
+/// The set with one member at the next place of its container: a form of the same length.
+fn moved(set: &[u32]) -> Vec<u32> {
+    let mut set = set.to_vec();
+    let free = |pair: &[u32]| pair[0] + 1 < pair[1] && pair[0] % 256 < 255;
+    let at = set.windows(2).position(free).expect("a gap");
+    set[at] += 1;
+    set
+}
+
+/// The masks of one density.
+struct Bench {
+    name: &'static str,
+    entries: Entries,
+    /// A mask for the slot, of the same length.
+    moved: Vec<u8>,
+}
+
+impl Bench {
+    fn input(&self) -> String {
+        format!("64 masks, {}, {} bytes", self.name, total(&self.entries))
+    }
+
+    /// The full store, in the order of the slots.
+    fn store(&self) -> Store {
+        let mut store = Store::empty(0);
+        for (slot, entry) in self.entries.iter().enumerate() {
+            store.append(slot, entry);
+        }
+        store
+    }
+}
+
+/// Into an empty slot. Its length is set to 0 by hand before each call, which is what drop does.
+fn put_line(bench: &Bench) -> Line {
+    let (mut first, mut second) = (bench.store(), bench.store());
+    let mask = &bench.entries[SLOT];
+    let line = measure(
+        "store put, slot empty",
+        &bench.input(),
+        sides!(bv_store_put as Put),
+        &mut |call| {
+            first.directory[2 * SLOT + 1] = 0;
+            put(call, &mut first, SLOT, mask);
+        },
+        &mut || {
+            second.directory[2 * SLOT + 1] = 0;
+            put_second(&mut second, SLOT, mask);
+        },
+    );
+    assert!(first.entries() == second.entries());
+    line
+}
+
+/// A form of the same length in place of the other, by turns.
+fn replace_line(bench: &Bench) -> Line {
+    let (mut first, mut second) = (bench.store(), bench.store());
+    let masks = [&bench.moved, &bench.entries[SLOT]];
+    assert_eq!(masks[0].len(), masks[1].len());
+    let (mut turn, mut second_turn) = (0, 0);
+    let line = measure(
+        "store put, same length replaced",
+        &bench.input(),
+        sides!(bv_store_put as Put),
+        &mut |call| {
+            put(call, &mut first, SLOT, masks[turn % 2]);
+            turn += 1;
+        },
+        &mut || {
+            put_second(&mut second, SLOT, masks[second_turn % 2]);
+            second_turn += 1;
+        },
+    );
+    put_second(&mut second, SLOT, masks[(turn + 1) % 2]);
+    assert!(first.entries() == second.entries());
+    line
+}
+
+/// Two puts: {0} in place of a large mask, and a large mask in place of another slot's {0}. No byte is
+/// spare, so all forms that lie between the two have to be moved. Each time it is another slot that
+/// becomes {0}.
+fn swap_line(bench: &Bench) -> Line {
+    let (small, large) = (form(&[0]), bench.entries[SLOT].clone());
+    let mut entries = vec![large.clone(); SLOTS];
+    entries[small_slot(0)] = small.clone();
+    let bench = Bench { name: bench.name, entries, moved: Vec::new() };
+    let (mut first, mut second) = (bench.store(), bench.store());
+    let (mut turn, mut second_turn) = (0, 0);
+    let line = measure(
+        "store put twice, large by small, small by large",
+        &bench.input(),
+        sides!(bv_store_put as Put),
+        &mut |call| {
+            put(call, &mut first, small_slot(turn + 1), &small);
+            put(call, &mut first, small_slot(turn), &large);
+            turn += 1;
+        },
+        &mut || {
+            put_second(&mut second, small_slot(second_turn + 1), &small);
+            put_second(&mut second, small_slot(second_turn), &large);
+            second_turn += 1;
+        },
+    );
+    for (store, turn) in [(first, turn), (second, second_turn)] {
+        let entries = store.entries().expect("a sound store");
+        let held = |slot| if slot == small_slot(turn) { &small } else { &large };
+        assert!((0..SLOTS).all(|slot| entries[slot] == *held(slot)));
+    }
+    line
+}
+
+/// The slot that holds {0}: all slots in turn, far from each other.
+fn small_slot(turn: usize) -> usize {
+    (turn * 23 + SLOT) % SLOTS
+}
+
+fn put(call: Put, store: &mut Store, slot: usize, mask: &[u8]) {
+    let Store { buffer, directory } = store;
+    let code = unsafe {
+        call(
+            buffer.as_mut_ptr(),
+            buffer.len(),
+            directory.as_mut_ptr(),
+            directory.len(),
+            slot as u32,
+            mask.as_ptr(),
+            mask.len(),
+        )
+    };
+    assert_eq!(code, 0);
+}
+
+fn put_second(store: &mut Store, slot: usize, mask: &[u8]) {
+    let Store { buffer, directory } = store;
+    assert_eq!(reference::put(buffer, directory, slot as u32, black_box(mask)), Ok(()));
+}
+
+fn fetch_line(bench: &Bench) -> Line {
+    let store = bench.store();
+    let Store { buffer, directory } = &store;
+    let length = bench.entries[SLOT].len();
+    let (mut first, mut second) = (vec![0; length], vec![0; length]);
+    let line = measure(
+        "store fetch",
+        &bench.input(),
+        sides!(bv_store_fetch as Fetch),
+        &mut |call| assert_eq!(fetch(call, &store, SLOT, &mut first), 0),
+        &mut || {
+            black_box(reference::fetch(black_box(buffer), directory, SLOT as u32, &mut second))
+                .ok();
+        },
+    );
+    assert!(first == bench.entries[SLOT] && second == first);
+    line
+}
+
+fn fetch(call: Fetch, store: &Store, slot: usize, out: &mut [u8]) -> u32 {
+    let Store { buffer, directory } = store;
+    let mut length = 0;
+    let code = unsafe {
+        call(
+            buffer.as_ptr(),
+            buffer.len(),
+            directory.as_ptr(),
+            directory.len(),
+            slot as u32,
+            out.as_mut_ptr(),
+            out.len(),
+            &mut length,
+        )
+    };
+    black_box(length);
+    code
+}
+
+/// The slot's length is set again by hand before each call.
+fn drop_line(bench: &Bench) -> Line {
+    let length = bench.entries[SLOT].len() as u32;
+    let (mut first, mut second) = (bench.store(), bench.store());
+    let line = measure(
+        "store drop",
+        &bench.input(),
+        sides!(bv_store_drop as Drop),
+        &mut |call| {
+            first.directory[2 * SLOT + 1] = length;
+            let (buffer, directory) = (&first.buffer, &mut first.directory);
+            let (numbers, to) = (directory.len(), directory.as_mut_ptr());
+            let code = unsafe { call(buffer.as_ptr(), buffer.len(), to, numbers, SLOT as u32) };
+            assert_eq!(code, 0);
+        },
+        &mut || {
+            second.directory[2 * SLOT + 1] = length;
+            let (buffer, directory) = (&second.buffer, &mut second.directory);
+            assert_eq!(reference::drop(black_box(buffer), directory, SLOT as u32), Ok(()));
+        },
+    );
+    assert!(first == second);
+    line
+}
+
+fn save_line(bench: &Bench) -> Line {
+    let Store { buffer, directory } = bench.store();
+    let expected = saved(&bench.entries);
+    let (mut first, mut second) = (vec![0; expected.len()], vec![0; expected.len()]);
+    let line = measure(
+        "store save",
+        &bench.input(),
+        sides!(bv_store_save as Save),
+        &mut |call| {
+            let (mut length, out) = (0, first.as_mut_ptr());
+            let (from, numbers) = (directory.as_ptr(), directory.len());
+            let code = unsafe {
+                call(buffer.as_ptr(), buffer.len(), from, numbers, out, first.len(), &mut length)
+            };
+            assert_eq!((code, length), (0, first.len()));
+        },
+        &mut || {
+            black_box(reference::save(black_box(&buffer), &directory, &mut second)).ok();
+        },
+    );
+    assert!(first == expected && second == expected);
+    line
+}
+
+fn load_line(bench: &Bench) -> Line {
+    let saved = saved(&bench.entries);
+    let length = total(&bench.entries);
+    let (mut first, mut second) = (Store::empty(length), Store::empty(length));
+    let line = measure(
+        "store load",
+        &bench.input(),
+        sides!(bv_store_load as Load),
+        &mut |call| {
+            let Store { buffer, directory } = &mut first;
+            let (to, numbers) = (directory.as_mut_ptr(), directory.len());
+            let code = unsafe {
+                call(buffer.as_mut_ptr(), length, to, numbers, saved.as_ptr(), saved.len())
+            };
+            assert_eq!(code, 0);
+        },
+        &mut || {
+            let Store { buffer, directory } = &mut second;
+            assert_eq!(reference::load(buffer, directory, black_box(&saved)), Ok(()));
+        },
+    );
+    assert!(first.entries().as_ref() == Ok(&bench.entries) && first.entries() == second.entries());
+    line
+}
+
+/// A fetch without room, which does nothing but judge the store; in the second program's column the same
+/// library's 64 checks of the forms, one by one.
+#[cfg(feature = "read")]
+fn judge_line(bench: &Bench) -> Line {
+    use crate::ffi::read::bv_bitmap_check;
+
+    let store = bench.store();
+    measure(
+        "store judged, by 64 checks of the library",
+        &bench.input(),
+        sides!(bv_store_fetch as Fetch),
+        &mut |call| assert_eq!(fetch(call, &store, SLOT, &mut []), 13),
+        &mut || {
+            for pair in store.directory.chunks_exact(2) {
+                let form = &store.buffer[pair[0] as usize..][..pair[1] as usize];
+                let mut cardinality = 0;
+                let code = unsafe { bv_bitmap_check(form.as_ptr(), form.len(), &mut cardinality) };
+                assert_eq!(black_box((code, cardinality)).0, 0);
+            }
+        },
+    )
+}
