@@ -1,36 +1,33 @@
 -- One written part after another; the parts of a chunk.
 -- Assumes nothing.
-use mathlib.Core.Path.{_≡_, refl, sym, ap, ap₂, _∙_}
-use mathlib.Core.Logic.{_⊎_, inl, inr, ⊎-elim}
+use mathlib.Core.Path.{_≡_, refl, sym, ap, _∙_}
 use lib.Count
 use Rattle.bitmap_spec.proofs.Window
 use mathlib.Core.Bool.{Bool, true, false}
 use mathlib.Core.List
-use mathlib.Core.List.{List, [], _∷_, _++_, map, append-assoc, append-nil}
-use Prim.Native.Nat.{ℕ, zero, suc, _+_, _-_, _*_, _/_, _%_, _^_, _≤_, _<_, min, max}
-use native.Mathlib.Nat.{add-zero, zero-add, not-suc-le-zero, le-of-suc-le-suc, add-assoc, mod-mod}
-use native.Mathlib.Numerals.{add-one}
+use mathlib.Core.List.{List, [], _∷_, _++_, map, append-nil}
+use Prim.Native.Nat.{ℕ, _+_, _-_, _*_, _/_, _%_, _^_, _≤_, min}
+use native.Mathlib.Nat.{add-zero, mod-mod}
 use native.Mathlib.Omega.{arith}
 use borrow.Author.Tests
 use Rattle.bit_pack.proofs.Bytes.{pack-same}
-use borrow.Author.Tests.{lt-ltb, le-ltb, eqb-true, eqb-false, ne-eqb, eq-eqb}
+use borrow.Author.Tests.{ne-eqb, eq-eqb}
 use lib.Dec.{ltb, eqb}
 use lib.ListN.{length, getD, set, take, drop, length-append, length-map, length-drop}
-use lib.Seq.{take-at, drop-at, take-append-seam, drop-drop, drop-append-add, length-take-le, take-length, drop-length}
+use lib.Seq.{drop-at, take-append-seam, length-take-le}
 use Rattle.common.specs.Bytes.{ceil8}
-use Rattle.common.specs.Lists.{keep, from, mem, table}
+use Rattle.common.specs.Lists.{from, mem}
 use Rattle.common.specs.Outcome.{pick}
-use Rattle.bitmap_spec.specs.Bits.{packValues, bytesOf, valueBit, packed}
+use Rattle.bitmap_spec.specs.Bits.{packValues}
 use Rattle.bitmap_spec.specs.Form.{width, wider, largest, least, smallest, cheapest, chunkAt, chunkOf, writeChunk}
 use Rattle.bitmap_spec.specs.Output.{written}
-use Rattle.bitmap_laws.proofs.Back.{length-pack, table-same}
+use Rattle.bitmap_laws.proofs.Back.{length-pack}
 use Rattle.bitmap_laws.proofs.Containers.{keep-same}
 use Rattle.width_choice.specs.Over.{over}
 use Rattle.width_choice.proofs.Steps.{over-wider}
-use Rattle.bitmap_laws.proofs.Length.{sizeAt, length-chunkOf, by-place, chunk-size}
-use Rattle.bitmap_laws.proofs.Values.{AllLe, second, map-at, least-at, le-map, widest-small, all-at}
-use Rattle.bitmap_laws.proofs.Output.{written-none, length-written, written-more, written-cat, taken}
-use Rattle.chunk_parts.proofs.Turns.{offs-few}
+use Rattle.bitmap_laws.proofs.Length.{sizeAt, length-chunkOf, by-place}
+use Rattle.bitmap_laws.proofs.Values.{AllLe, second, map-at, le-map, widest-small}
+use Rattle.bitmap_laws.proofs.Output.{written-none, written-more, written-cat, taken}
 use Rattle.chunk_parts.specs.Kept.{offsets, isOver}
 use Rattle.chunk_write.specs.Exceptions.{exceptionsOf}
 use Rattle.bitmap_laws.proofs.Pack
@@ -156,35 +153,16 @@ module _ (vs offs before o1 : List ℕ) (b b2 at o : ℕ) (many : o ≡ length o
       q ∙ rw (same, put) (written-cat before offs high at (at + o) (omega arith) (omega arith))
 
 -- how many exceptions there are
-pub over-many : (ws : List ℕ) (b : ℕ) → length (over b ws) ≡ length (offsets ws b (length ws))
+over-many : (ws : List ℕ) (b : ℕ) → length (over b ws) ≡ length (offsets ws b (length ws))
 unfolding over offsets isOver
 over-many ws b = sym (by-place (λ w. ltb b w) ws)
 
-wide-le : (vs : List ℕ) (b : ℕ) → length (wider b vs) ≤ length vs
-wide-le vs b =
-    rw (← over-wider vs b, over-many (map width vs) b)
-    (omega (arith, offs-few (map width vs) b (length (map width vs)), length-map vs width))
+-- as many as values are wider than b
+pub wider-many : (vs ws : List ℕ) (b e : ℕ) → ws ≡ map width vs → e ≡ length (wider b vs)
+    → e ≡ length (offsets ws b (length ws))
+wider-many vs ws b e same count = count ∙ sym (over-wider vs b) ∙ rw (← same) (over-many ws b)
 
-narrow-zero : width 0 ≡ 0
-unfolding width lib.Count.leadingZeros
-narrow-zero = refl
-
--- a value that is 0 is no exception
-pub wide-few : (vs : List ℕ) (b : ℕ) → mem 0 vs ≡ true → length (wider b vs) < length vs
-unfolding mem wider keep
-wide-few [] b h = absurd (let z : _≡_ {A = ℕ} 0 1 = cc in omega arith)
-wide-few (v ∷ vs) b h = go (eqb 0 v) refl h (λ g. wide-few vs b g) (wide-le vs b)
-  where
-    go : (t : Bool) → eqb 0 v ≡ t → pick t true (mem 0 vs) ≡ true → (mem 0 vs ≡ true → length (keep (λ v. ltb b (width v)) vs) < length vs) → length (keep (λ v. ltb b (width v)) vs) ≤ length vs
-        → length (pick (ltb b (width v)) (v ∷ keep (λ v. ltb b (width v)) vs) (keep (λ v. ltb b (width v)) vs)) < suc (length vs)
-    go true e g ih le = rw (← eqb-true 0 v e, narrow-zero, le-ltb b 0 (omega arith)) (omega arith)
-    go false e g ih le = go2 (ltb b (width v)) (ih g)
-      where
-        go2 : (t : Bool) → length (keep (λ v. ltb b (width v)) vs) < length vs → length (pick t (v ∷ keep (λ v. ltb b (width v)) vs) (keep (λ v. ltb b (width v)) vs)) < suc (length vs)
-        go2 true l = omega arith
-        go2 false l = omega arith
-
--- the least value less itself is 0
+-- a member, first or later
 pub mem-here : (z x : ℕ) (xs : List ℕ) → z ≡ x → mem z (x ∷ xs) ≡ true
 unfolding mem
 mem-here z x xs e = rw (eq-eqb z x e)
@@ -197,26 +175,18 @@ mem-later z x xs h = rw h (go (eqb z x))
     go true = refl
     go false = refl
 
-small-mem : (m : ℕ) (xs : List ℕ) → (smallest m xs ≡ m) ⊎ (mem (smallest m xs) xs ≡ true)
+-- the least value less itself is 0
+small-less : (k m : ℕ) (xs : List ℕ) → smallest (m - k) (map (λ d. d - k) xs) ≡ smallest m xs - k
 unfolding smallest
-small-mem m [] = inl refl
-small-mem m (x ∷ xs) = ⊎-elim
-    (λ e. ⊎-elim (λ l. inl (e ∙ omega arith)) (λ l. inr (mem-here (smallest (min m x) xs) x xs (e ∙ omega arith))) (Rattle.bitmap_spec.proofs.Window.below-or m x))
-    (λ h. inr (mem-later (smallest (min m x) xs) x xs h)) (small-mem (min m x) xs)
+small-less k m [] = refl
+small-less k m (x ∷ xs) =
+    let e : min (m - k) (x - k) ≡ min m x - k = omega arith in
+    rw (smallest, e) (small-less k (min m x) xs)
 
-shifted : (m : ℕ) (l : List ℕ) → mem m l ≡ true → mem 0 (map (λ d. d - m) l) ≡ true
-unfolding mem
-shifted m [] e = e
-shifted m (x ∷ xs) e = go (eqb m x) refl e (λ g. shifted m xs g)
-  where
-    go : (t : Bool) → eqb m x ≡ t → pick t true (mem m xs) ≡ true → (mem m xs ≡ true → mem 0 (map (λ d. d - m) xs) ≡ true) → mem 0 (map (λ d. d - m) (x ∷ xs)) ≡ true
-    go true q g ih = mem-here 0 (x - m) (map (λ d. d - m) xs) (omega (arith, eqb-true m x q))
-    go false q g ih = mem-later 0 (x - m) (map (λ d. d - m) xs) (ih g)
-
-pub least-mem : (ds : List ℕ) → 0 < length ds → mem 0 (map (λ d. d - least ds) ds) ≡ true
+least-less : (ds : List ℕ) → 0 ≡ least (map (λ d. d - least ds) ds)
 unfolding least
-least-mem [] h = absurd (not-suc-le-zero h)
-least-mem (d ∷ ds) h = shifted (smallest d ds) (d ∷ ds) (⊎-elim (λ e. mem-here (smallest d ds) d ds e) (λ e. mem-later (smallest d ds) d ds e) (small-mem d ds))
+least-less [] = refl
+least-less (d ∷ ds) = sym (small-less (smallest d ds) d ds ∙ omega arith)
 
 module _ (vs : List ℕ) (b b2 e w : ℕ) (he : e ≡ length (wider b vs)) (hw : w ≡ largest (map width vs)) (h2 : b2 ≡ pick (eqb e 0) 0 (w - b)) where
   b2-is : b2 ≡ second vs b
@@ -238,17 +208,6 @@ pub chosen : (vs : List ℕ) (b w : ℕ) → w ≡ largest (map width vs) → b 
 chosen vs b w hw hb = hb ∙ rw hw
 
 -- ---- a chunk of descriptors
-module _ (ds : List ℕ) (a : AllLe 63 ds) (some : 0 < length ds) where
-  pub values-narrow : largest (map width (map (λ d. d - least ds) ds)) ≤ 6
-  values-narrow = widest-small (map (λ d. d - least ds) ds) (le-map (least ds) 63 ds a)
-
-  pub values-zero : mem 0 (map (λ d. d - least ds) ds) ≡ true
-  values-zero = least-mem ds some
-
-  pub size-chunk : sizeAt (map (λ d. d - least ds) ds) (cheapest (map (λ d. d - least ds) ds) (largest (map width (map (λ d. d - least ds) ds)))) ≡ length (writeChunk ds)
-  unfolding writeChunk
-  size-chunk = sym (length-chunkOf (map (λ d. d - least ds) ds) (least ds) (cheapest (map (λ d. d - least ds) ds) (largest (map width (map (λ d. d - least ds) ds)))))
-
 pub whole-chunk : (ds vs : List ℕ) (m : ℕ) → m ≡ least ds → vs ≡ map (λ d. d - m) ds → chunkOf vs m (cheapest vs (largest (map width vs))) ≡ writeChunk ds
 unfolding writeChunk
 whole-chunk ds vs m hm hv = rw (hv, hm)
@@ -259,5 +218,5 @@ whole-size ds vs m hm hv = sym (length-chunkOf vs m (cheapest vs (largest (map w
 pub whole-narrow : (ds vs : List ℕ) (m : ℕ) → AllLe 63 ds → vs ≡ map (λ d. d - m) ds → largest (map width vs) ≤ 6
 whole-narrow ds vs m a hv = rw hv (widest-small (map (λ d. d - m) ds) (le-map m 63 ds a))
 
-pub whole-zero : (ds vs : List ℕ) (m : ℕ) → 0 < length ds → m ≡ least ds → vs ≡ map (λ d. d - m) ds → mem 0 vs ≡ true
-whole-zero ds vs m some hm hv = rw (hv, hm) (least-mem ds some)
+pub whole-zero : (ds vs : List ℕ) (m : ℕ) → m ≡ least ds → vs ≡ map (λ d. d - m) ds → 0 ≡ least vs
+whole-zero ds vs m hm hv = rw (hv, hm) (least-less ds)

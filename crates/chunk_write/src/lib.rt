@@ -1,15 +1,13 @@
 // One chunk of descriptors, written. Inner: no entry point.
 ghost use mathlib.Core.Path.{_≡_};
-ghost use mathlib.Core.Bool.{true};
-ghost use mathlib.Core.List.{List, [], _∷_, map};
+ghost use mathlib.Core.List.{[], _∷_, map};
 ghost use Prim.Native.Nat.{ℕ, _+_, _-_, _*_, _/_, _%_, _^_, _≤_, _<_};
 ghost use lib.ListN.{length, getD, take, drop};
 ghost use lib.Dec.{eqb};
 ghost use Rattle.common.specs.Bytes.{ceil8};
-ghost use Rattle.common.specs.Lists.{mem};
 ghost use Rattle.common.specs.Outcome.{pick};
 ghost use Rattle.bitmap_spec.specs.Bits.{packValues};
-ghost use Rattle.bitmap_spec.specs.Form.{width, largest, cheapest, chunkAt, chunkOf, writeChunk};
+ghost use Rattle.bitmap_spec.specs.Form.{width, least, largest, cheapest, chunkAt, chunkOf, writeChunk};
 ghost use Rattle.bitmap_spec.specs.Output.{written};
 ghost use Rattle.bitmap_laws.proofs.Length.{sizeAt};
 ghost use Rattle.bitmap_laws.proofs.Values.{AllLe};
@@ -91,26 +89,26 @@ fn put_at(
 
 // A chunk's bytes from its values and their widths.
 fn put_values(vs: &[u8], ws: &[u8], m: u8, out: &mut [u8], at: usize) -> usize
-    requires { ⌜ (length (now vs) ≤ 256) × (now ws ≡ map width (now vs)) × (mem 0 (now vs) ≡ true) × (largest (map width (now vs)) ≤ 6) × (at + sizeAt (now vs) (cheapest (now vs) (largest (map width (now vs)))) ≤ length (now out)) ⌝ }
+    requires { ⌜ (length (now vs) ≤ 256) × (now ws ≡ map width (now vs)) × (0 ≡ least (now vs)) × (largest (map width (now vs)) ≤ 6) × (at + sizeAt (now vs) (cheapest (now vs) (largest (map width (now vs)))) ≤ length (now out)) ⌝ }
     ensures { λ r. ⌜ (r ≡ sizeAt (now (vs .entry)) (cheapest (now (vs .entry)) (largest (map width (now (vs .entry)))))) × (now (out .exit) ≡ written (now (out .entry)) at (chunkOf (now (vs .entry)) m (cheapest (now (vs .entry)) (largest (map width (now (vs .entry))))))) ⌝ }
 {
-    let w = width_choice::largest_of(ws) as u32;
-    let b = width_choice::cheapest_of(ws, w);
-    let e = width_choice::wider_count(ws, b);
+    let w = width_choice::largest_width(vs, 0);
+    let b = width_choice::cheapest_at(vs, 0, w);
+    let e = width_choice::wider_of(vs, 0, b);
     let b2 = second_of(w, b, e);
     put_at(vs, ws, m, b, b2, e, out, at)
 }
 
-// How many bytes a chunk of values of these widths takes.
-fn widths_size(ws: &[u8]) -> usize
-    requires { ⌜ (length (now ws) ≤ 256) × (largest (now ws) ≤ 6) ⌝ }
-    ensures { λ r. ⌜ ((vs : List ℕ) → now (ws .entry) ≡ map width vs → r ≡ sizeAt vs (cheapest vs (largest (map width vs)))) ⌝ }
+// How many bytes a chunk of descriptors less m, the least of them, takes.
+fn values_size(ds: &[u8], m: u8) -> usize
+    requires { ⌜ (length (now ds) ≤ 256) × (m ≡ least (now ds)) ⌝ }
+    ensures { λ r. ⌜ r ≡ sizeAt (map (λ d. d - m) (now (ds .entry))) (cheapest (map (λ d. d - m) (now (ds .entry))) (largest (map width (map (λ d. d - m) (now (ds .entry)))))) ⌝ }
 {
-    let w = width_choice::largest_of(ws) as u32;
-    let b = width_choice::cheapest_of(ws, w);
-    let e = width_choice::wider_count(ws, b);
+    let w = width_choice::largest_width(ds, m);
+    let b = width_choice::cheapest_at(ds, m, w);
+    let e = width_choice::wider_of(ds, m, b);
     let b2 = second_of(w, b, e);
-    3 + (ws.len() * (b as usize) + 7) / 8 + e + (e * (b2 as usize) + 7) / 8
+    3 + width_choice::packed_size(ds.len(), b) + e + width_choice::packed_size(e, b2)
 }
 
 // A chunk of descriptors.
@@ -132,7 +130,5 @@ pub fn chunk_size(ds: &[u8]) -> usize
     ensures { λ r. ⌜ (r ≡ length (writeChunk (now (ds .entry)))) × (r ≤ 195) ⌝ }
 {
     let m = width_choice::least_of(ds);
-    let mut ws = [0u8; 256];
-    let n = width_choice::widths_of(ds, m, &mut ws);
-    widths_size(&ws[..n])
+    values_size(ds, m)
 }

@@ -1,21 +1,19 @@
 -- One value more, of what is told of the values from i on.
 -- Assumes nothing.
-use mathlib.Core.Path.{_≡_, refl, sym, ap, _∙_}
+use mathlib.Core.Path.{_≡_, refl, ap}
 use mathlib.Core.Bool.{Bool, true, false}
 use mathlib.Core.List.{List, [], _∷_, map}
-use Prim.Native.Nat.{ℕ, suc, _+_, _-_, _*_, _≤_, _<_, min, max}
+use Prim.Native.Nat.{ℕ, suc, _+_, _≤_, _<_, min, max}
 use native.Mathlib.Nat.{not-suc-le-zero}
 use native.Mathlib.Numerals.{add-one}
 use native.Mathlib.Omega.{arith}
 use borrow.Author.Tests.{lt-ltb, le-ltb}
 use lib.Dec.{ltb}
-use lib.ListN.{length, getD, drop, length-map, drop-of-length-le}
+use lib.ListN.{length, getD, drop, drop-of-length-le}
 use lib.Seq.{drop-cons}
 use Rattle.common.specs.Lists.{keep}
-use Rattle.common.specs.Bytes.{ceil8}
 use Rattle.common.specs.Outcome.{pick}
 use Rattle.width_choice.specs.Over.{over}
-use Rattle.bitmap_laws.proofs.Length.{cost-widest}
 use Rattle.bitmap_spec.specs.Form.{smallest, least, largest, width, wider, cost, cheapest}
 
 pub drop-one : (l : List ℕ) (i : ℕ) → i < length l → drop i l ≡ getD l i 0 ∷ drop (i + 1) l
@@ -69,25 +67,6 @@ over-wider (v ∷ vs) b = by-test (ltb b (width v)) (over-wider vs b)
         ≡ length (pick t (v ∷ keep (λ x. ltb b (width x)) vs) (keep (λ x. ltb b (width x)) vs))
     by-test true e = ap suc e
     by-test false e = e
-
--- as many widths as values
-pub as-many : (vs ws : List ℕ) → ws ≡ map width vs → length ws ≡ length vs
-as-many vs ws same = ap length same ∙ length-map vs width
-
--- the cost, by the widths of the values
-pub cost-by : (vs ws : List ℕ) (b e w : ℕ) → ws ≡ map width vs → e ≡ length (over b ws) → w ≡ largest ws
-    → ceil8 (length ws * b) + e + ceil8 (e * (w - b)) ≡ cost vs b
-unfolding cost
-cost-by vs ws b e w same count top =
-    let many : e ≡ length (wider b vs) = count ∙ ap (λ l. length (over b l)) same ∙ over-wider vs b in
-    let most : w ≡ largest (map width vs) = top ∙ ap largest same in
-    rw (as-many vs ws same, many, most)
-
--- the cost of the largest width
-pub cost-top : (vs ws : List ℕ) (w : ℕ) → ws ≡ map width vs → w ≡ largest ws → ceil8 (length ws * w) ≡ cost vs w
-cost-top vs ws w same top =
-    let most : largest (map width vs) ≤ w = rw (← same) (omega arith) in
-    rw (as-many vs ws same) (sym (cost-widest vs w most))
 
 pub cheapest-on : (vs : List ℕ) (b : ℕ) → cost vs (b + 1) < cost vs (cheapest vs b) → cheapest vs (b + 1) ≡ b + 1
 unfolding cheapest

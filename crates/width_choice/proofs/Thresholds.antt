@@ -3,10 +3,10 @@
 -- Assumes nothing.
 use mathlib.Core.Path.{_≡_, refl, sym, ap, _∙_}
 use mathlib.Core.Bool.{Bool, true, false}
-use mathlib.Core.Logic.{_⊎_, inl, inr, ⊎-elim}
+use mathlib.Core.Logic.{⊎-elim}
 use mathlib.Core.List.{List, [], _∷_, map}
 use Prim.Native.Nat.{ℕ, zero, suc, _+_, _-_, _*_, _/_, _%_, _^_, _≤_, _<_, min, max}
-use native.Mathlib.Nat.{not-suc-le-zero}
+use native.Mathlib.Nat.{not-suc-le-zero, sub-zero}
 use native.Mathlib.Omega.{arith}
 use borrow.Author.Tests.{lt-ltb, le-ltb}
 use lib.Count.{leadingZeros, leading-le, leading-length}
@@ -30,6 +30,10 @@ less m ds = map (λ d. d - m) ds
 
 pub length-less : (m : ℕ) (ds : List ℕ) → length ds ≡ length (less m ds)
 length-less m ds = sym (length-map ds (λ d. d - m))
+
+pub less-none : (ds : List ℕ) → less 0 ds ≡ ds
+less-none [] = refl
+less-none (d ∷ ds) = rw (less-none ds, sub-zero d)
 
 -- ---- widths
 

@@ -1,6 +1,6 @@
 // Widths, costs and the choice of the width b1 of a chunk. Inner: no entry point.
 ghost use mathlib.Core.Path.{_≡_};
-ghost use mathlib.Core.List.{List, map};
+ghost use mathlib.Core.List.{map};
 ghost use Prim.Native.Nat.{ℕ, _+_, _-_, _*_, _≤_, _<_};
 ghost use lib.Dec.{ltb};
 ghost use lib.ListN.{length, getD};
@@ -17,7 +17,7 @@ fn width_of(v: u8) -> u8
     (8 - u8::leading_zeros(v)) as u8
 }
 
-// The width of each descriptor less m: each width once, so that counting those over b is a loop over bytes.
+// The width of each descriptor less m.
 pub fn widths_of(ds: &[u8], m: u8, ws: &mut [u8]) -> usize
     requires { ⌜ (length (now ds) ≤ length (now ws)) × ((i : ℕ) → i < length (now ds) → m ≤ getD (now ds) i 0) ⌝ }
     ensures { λ r. ⌜ (r ≡ length (now (ds .entry))) × (now (ws .exit) ≡ written (now (ws .entry)) 0 (map width (map (λ d. d - m) (now (ds .entry))))) ⌝ }
@@ -47,7 +47,7 @@ pub fn least_of(ds: &[u8]) -> u8
     m
 }
 
-// The largest width.
+// The largest of the values.
 pub fn largest_of(ws: &[u8]) -> u8
     ensures { λ r. ⌜ r ≡ largest (now (ws .entry)) ⌝ }
 {
@@ -63,82 +63,8 @@ pub fn largest_of(ws: &[u8]) -> u8
     m
 }
 
-// How many widths are over b: a loop over bytes with no branch.
-pub fn wider_count(ws: &[u8], b: u32) -> usize
-    requires { ⌜ (length (now ws) ≤ 256) × (b ≤ 8) ⌝ }
-    ensures { λ r. ⌜ (r ≡ length (over b (now (ws .entry)))) × (r ≤ length (now (ws .entry))) ⌝ }
-{
-    let narrow = b as u8;
-    let mut e: u16 = 0;
-    let mut i: usize = 0;
-    while i < ws.len() {
-        if narrow < ws[i] {
-            e += 1;
-        }
-        i += 1;
-    }
-    e as usize
-}
-
-// How many bytes n values of b bits take, packed.
-fn packed_size(n: usize, b: u32) -> usize
-    requires { ⌜ (n ≤ 256) × (b ≤ 8) ⌝ }
-    ensures { λ r. ⌜ (r ≡ ceil8 (n * b)) × (r ≤ 256) ⌝ }
-{
-    (n * (b as usize) + 7) / 8
-}
-
-// The cost of the width b for values of these widths, where w is the largest.
-fn cost_of(ws: &[u8], w: u32, b: u32) -> usize
-    requires { ⌜ (length (now ws) ≤ 256) × (w ≡ largest (now ws)) × (w ≤ 8) × (b ≤ w) ⌝ }
-    ensures { λ r. ⌜ ((vs : List ℕ) → now (ws .entry) ≡ map width vs → r ≡ cost vs b) ⌝ }
-{
-    let e = wider_count(ws, b);
-    packed_size(ws.len(), b) + e + packed_size(e, w - b)
-}
-
-// The one of best and w that costs less, best on a tie.
-fn cheaper(best: u32, least: usize, w: u32, top: usize) -> u32
-    ensures { λ r. ⌜ r ≡ pick (ltb top least) w best ⌝ }
-{
-    if top < least {
-        return w;
-    }
-    best
-}
-
-// The width of least cost for values of these widths, the smaller on a tie.
-pub fn cheapest_of(ws: &[u8], w: u32) -> u32
-    requires { ⌜ (length (now ws) ≤ 256) × (w ≡ largest (now ws)) × (w ≤ 8) ⌝ }
-    ensures { λ r. ⌜ ((vs : List ℕ) → now (ws .entry) ≡ map width vs → r ≡ cheapest vs w) × (r ≤ w) ⌝ }
-{
-    let top = packed_size(ws.len(), w);
-    let mut best: u32 = 0;
-    let mut least = cost_of(ws, w, 0);
-    let mut b: u32 = 0;
-    while b < w {
-        let low = packed_size(ws.len(), b + 1);
-        // a larger width costs at least its low parts
-        if least <= low {
-            return best;
-        }
-        // and, below w, two bytes of exceptions more: then w is settled with no further count
-        if top < low + 2 {
-            return cheaper(best, least, w, top);
-        }
-        b += 1;
-        let c = cost_of(ws, w, b);
-        if c < least {
-            best = b;
-            least = c;
-        }
-    }
-    // only a w of 0 ends here
-    best
-}
-
 // How many of ds are over t, counted in a byte and with no branch: of that the back end compares sixteen at a time.
-pub fn count_over(ds: &[u8], t: u8) -> usize
+fn count_over(ds: &[u8], t: u8) -> usize
     requires { ⌜ length (over t (now ds)) ≤ 255 ⌝ }
     ensures { λ r. ⌜ r ≡ length (over t (now (ds .entry))) ⌝ }
 {
@@ -171,6 +97,14 @@ pub fn wider_of(ds: &[u8], m: u8, b: u32) -> usize
     count_over(ds, t as u8)
 }
 
+// How many bytes n values of b bits take, packed.
+pub fn packed_size(n: usize, b: u32) -> usize
+    requires { ⌜ (n ≤ 256) × (b ≤ 8) ⌝ }
+    ensures { λ r. ⌜ (r ≡ ceil8 (n * b)) × (r ≤ 256) ⌝ }
+{
+    (n * (b as usize) + 7) / 8
+}
+
 // The cost of the width b for descriptors less m, the least of them, where w is the largest width.
 fn cost_at(ds: &[u8], m: u8, w: u32, b: u32) -> usize
     requires { ⌜ (length (now ds) ≤ 256) × (m ≡ least (now ds)) × (w ≡ largest (map width (map (λ d. d - m) (now ds)))) × (w ≤ 8) × (b ≤ w) ⌝ }
@@ -180,12 +114,22 @@ fn cost_at(ds: &[u8], m: u8, w: u32, b: u32) -> usize
     packed_size(ds.len(), b) + e + packed_size(e, w - b)
 }
 
+// The one of best and w that costs less, best on a tie.
+fn cheaper(best: u32, least: usize, w: u32, top: usize) -> u32
+    ensures { λ r. ⌜ r ≡ pick (ltb top least) w best ⌝ }
+{
+    if top < least {
+        return w;
+    }
+    best
+}
+
 // The width of least cost for descriptors less m, the least of them, the smaller on a tie; w is the largest width.
 pub fn cheapest_at(ds: &[u8], m: u8, w: u32) -> u32
     requires { ⌜ (length (now ds) ≤ 256) × (m ≡ least (now ds)) × (w ≡ largest (map width (map (λ d. d - m) (now ds)))) × (w ≤ 8) ⌝ }
     ensures { λ r. ⌜ (r ≡ cheapest (map (λ d. d - m) (now (ds .entry))) w) × (r ≤ w) ⌝ }
 {
-    let last = packed_size(ds.len(), w);
+    let top = packed_size(ds.len(), w);
     let mut best: u32 = 0;
     let mut least = cost_at(ds, m, w, 0);
     let mut b: u32 = 0;
@@ -196,14 +140,14 @@ pub fn cheapest_at(ds: &[u8], m: u8, w: u32) -> u32
             return best;
         }
         // and, below w, two bytes of exceptions more: then w is settled with no further count
-        if last < low + 2 {
-            return cheaper(best, least, w, last);
+        if top < low + 2 {
+            return cheaper(best, least, w, top);
         }
         b += 1;
-        let cost = cost_at(ds, m, w, b);
-        if cost < least {
+        let c = cost_at(ds, m, w, b);
+        if c < least {
             best = b;
-            least = cost;
+            least = c;
         }
     }
     // only a w of 0 ends here

@@ -76,7 +76,7 @@ put-values-requires c κs =
     let size = ap length values ∙ length-map ds (λ d. d - m .result) in (
       rw size (s .pre .1),
       first ∙ ap (λ (l : List ℕ). map width l) (sym values),
-      whole-zero ds _ (m .result) (s .pre .0) (m .ensures) values,
+      whole-zero ds _ (m .result) (m .ensures) values,
       whole-narrow ds _ (m .result) (s .pre .2) values,
       rw (whole-size ds _ (m .result) (m .ensures) values) (s .pre .3),
     )

@@ -1,47 +1,33 @@
 -- The chosen widths and exceptions are those of the written chunk.
 -- Assumes nothing.
+use mathlib.Core.Path.{_≡_, ap, _∙_}
 use mathlib.Core.List.{List, map}
-use lib.ListN.{length-map, length, getD}
-use Rattle.bitmap_spec.specs.Form.{width, wider, largest, chunkOf}
+use lib.ListN.{length, length-map}
+use Prim.Native.Nat.{ℕ}
+use native.Mathlib.Omega.{arith}
+use Rattle.bitmap_spec.specs.Form.{width, wider, largest, cheapest, chunkOf}
 use Rattle.bitmap_spec.specs.Output.{written}
 use Rattle.bitmap_laws.proofs.Length.{sizeAt}
-use Rattle.width_choice.specs.Over.{over}
-use Rattle.width_choice.proofs.Steps.{over-wider}
-use Rattle.chunk_write.proofs.Laying.{over-many, wide-few, size-is, chunk-is, chosen}
+use Rattle.width_choice.proofs.Thresholds.{less-none}
+use Rattle.chunk_write.proofs.Laying.{wider-many, size-is, chunk-is, chosen}
 use borrow.Author.Needs.{needs}
-use mathlib.Core.Path.{_≡_, refl, sym, ap, _∙_}
-use Prim.Native.Nat.{ℕ, zero, suc, _+_, _-_, _*_, _≤_, _<_}
-use native.Mathlib.Omega.{arith}
 use Rattle.chunk_write.proofs.put_values.Statement.{statement}
 use Rattle.chunk_write.proofs.put_values.Tie as tie
 
-largest-of-requires : tie.Need-largest-of-requires
-largest-of-requires c κs = search needs
+largest-width-requires : tie.Need-largest-width-requires
+largest-width-requires c κs =
+    let pre = c .before .before .before .pre in
+    pre .2
 
-cast-w : tie.Need-cast-w
-cast-w c = search needs
-
-cheapest-of-requires : tie.Need-cheapest-of-requires
-cheapest-of-requires c κs =
+cheapest-at-requires : tie.Need-cheapest-at-requires
+cheapest-at-requires c κs =
     let s = c .before .before .before .before in
-    let vs = s .args .vs .now in
-    let ws = s .args .ws .now in
-    let same = s .pre .1 in
-    let long : length ws ≡ length vs = ap length same ∙ length-map vs width in
-    let w = c .largest-of in
-    let widest : w .result ≡ largest (map width vs) = w .ensures ∙ ap largest same in
-    (omega arith, w .ensures, omega arith)
+    (s .pre .0, s .pre .2, c .largest-width .ensures .0, c .largest-width .ensures .1)
 
-wider-count-requires : tie.Need-wider-count-requires
-wider-count-requires c κs =
+wider-of-requires : tie.Need-wider-of-requires
+wider-of-requires c κs =
     let s = c .before .before .before .before .before in
-    let vs = s .args .vs .now in
-    let ws = s .args .ws .now in
-    let same = s .pre .1 in
-    let long : length ws ≡ length vs = ap length same ∙ length-map vs width in
-    let w = c .before .largest-of in
-    let widest : w .result ≡ largest (map width vs) = w .ensures ∙ ap largest same in
-    (omega arith, omega (arith, c .cheapest-of .ensures .1))
+    (s .pre .0, s .pre .2, omega (arith, c .cheapest-at .ensures .1, c .before .largest-width .ensures .1))
 
 second-of-requires : tie.Need-second-of-requires
 second-of-requires c κs = search needs
@@ -50,24 +36,23 @@ put-at-requires : tie.Need-put-at-requires
 put-at-requires c κs =
     let s = c .before .before .before .before .before .before .before .before in
     let vs = s .args .vs .now in
-    let ws = s .args .ws .now in
-    let same = s .pre .1 in
-    let long : length ws ≡ length vs = ap length same ∙ length-map vs width in
-    let w = c .before .before .before .before .largest-of in
-    let widest : w .result ≡ largest (map width vs) = w .ensures ∙ ap largest same in
-    let b = c .before .before .before .cheapest-of in
-    let e = c .before .before .wider-count in
+    let w = c .before .before .before .before .largest-width in
+    let b = c .before .before .before .cheapest-at in
+    let e = c .before .before .wider-of in
     let b2 = c .before .second-of in
+    let own = less-none vs in
+    let widest : w .result ≡ largest (map width vs) = w .ensures .0 ∙ ap (λ (l : List ℕ). largest (map width l)) own in
     let count : e .result ≡ length (wider (b .result) vs) =
-    e .ensures .0 ∙ ap (λ (l : List ℕ). length (over (b .result) l)) same ∙ over-wider vs (b .result) in
-    let chosen-b = chosen vs (b .result) (w .result) widest (b .ensures .0 vs same) in
+    e .ensures .0 ∙ ap (λ (l : List ℕ). length (wider (b .result) l)) own in
+    let best : b .result ≡ cheapest vs (w .result) = b .ensures .0 ∙ ap (λ (l : List ℕ). cheapest l (w .result)) own in
+    let chosen-b = chosen vs (b .result) (w .result) widest best in
     let size = size-is vs (b .result) (b2 .result) (e .result) (w .result) count widest (b2 .ensures .0) in (
       s .pre .0,
-      long,
-      omega (arith, b .ensures .1),
-      omega (arith, b2 .ensures .1),
-      omega (arith, wide-few vs (b .result) (s .pre .2)),
-      e .ensures .0 ∙ over-many ws (b .result),
+      ap length (s .pre .1) ∙ length-map vs width,
+      omega (arith, b .ensures .1, widest, s .pre .3),
+      omega (arith, b2 .ensures .1, widest, s .pre .3),
+      omega (arith, e .ensures .1),
+      wider-many vs (s .args .ws .now) (b .result) (e .result) (s .pre .1) count,
       omega (arith, size, ap (λ (x : ℕ). sizeAt vs x) chosen-b, s .pre .4),
     )
 
@@ -78,21 +63,20 @@ returns : tie.Need-returns
 returns c =
     let s = c .before .before .before .before .before .before .before .before .before .before .before in
     let vs = s .args .vs .now in
-    let ws = s .args .ws .now in
-    let same = s .pre .1 in
-    let long : length ws ≡ length vs = ap length same ∙ length-map vs width in
-    let w = c .before .before .before .before .before .before .before .largest-of in
-    let widest : w .result ≡ largest (map width vs) = w .ensures ∙ ap largest same in
-    let b = c .before .before .before .before .before .before .cheapest-of in
-    let e = c .before .before .before .before .before .wider-count in
+    let w = c .before .before .before .before .before .before .before .largest-width in
+    let b = c .before .before .before .before .before .before .cheapest-at in
+    let e = c .before .before .before .before .before .wider-of in
     let b2 = c .before .before .before .before .second-of in
+    let own = less-none vs in
+    let widest : w .result ≡ largest (map width vs) = w .ensures .0 ∙ ap (λ (l : List ℕ). largest (map width l)) own in
     let count : e .result ≡ length (wider (b .result) vs) =
-    e .ensures .0 ∙ ap (λ (l : List ℕ). length (over (b .result) l)) same ∙ over-wider vs (b .result) in
-    let chosen-b = chosen vs (b .result) (w .result) widest (b .ensures .0 vs same) in
+    e .ensures .0 ∙ ap (λ (l : List ℕ). length (wider (b .result) l)) own in
+    let best : b .result ≡ cheapest vs (w .result) = b .ensures .0 ∙ ap (λ (l : List ℕ). cheapest l (w .result)) own in
+    let chosen-b = chosen vs (b .result) (w .result) widest best in
     let size = size-is vs (b .result) (b2 .result) (e .result) (w .result) count widest (b2 .ensures .0) in
     let put = c .before .before .put-at in
-    let chunk = chunk-is vs (b .result) (b2 .result) (e .result) (w .result) count widest (b2 .ensures .0) ws
-    (s .args .m) same in (
+    let chunk = chunk-is vs (b .result) (b2 .result) (e .result) (w .result) count widest (b2 .ensures .0)
+    (s .args .ws .now) (s .args .m) (s .pre .1) in (
       put .ensures .0 ∙ size ∙ ap (λ (x : ℕ). sizeAt vs x) chosen-b,
       put .ensures .1
           ∙ ap (λ (l : List ℕ). written (s .args .out .now) (s .args .at) l)
@@ -103,10 +87,9 @@ pub put-values-spec : {M : Type 1} → statement M
 put-values-spec =
     tie.close
     (tie.spec
-    largest-of-requires
-    cast-w
-    cheapest-of-requires
-    wider-count-requires
+    largest-width-requires
+    cheapest-at-requires
+    wider-of-requires
     second-of-requires
     put-at-requires
     same-length
