@@ -46,7 +46,9 @@ module _ (h : ChunkHead) (ds : List ℕ) (m : ℕ) (is : m ≡ least ds) where
 
     module _ (b : ℕ) (best : b ≡ cheapest (map (λ d. d - m) ds) w) where
       chosen : headIs h ds ≡ headOf h (map (λ d. d - m) ds) m b
-      chosen = head-by ∙ ap (headOf h (map (λ d. d - m) ds) m) (ap (cheapest (map (λ d. d - m) ds)) (sym top) ∙ sym best)
+      chosen =
+          head-by
+          ∙ ap (headOf h (map (λ d. d - m) ds) m) (ap (cheapest (map (λ d. d - m) ds)) (sym top) ∙ sym best)
 
       pub other-width : (h .b1 ≡ b → ⊥) → false ≡ headIs h ds
       unfolding headOf

@@ -1,4 +1,4 @@
--- A walk over chunks that were read: each begins inside the bytes, ends where its head says, and is followed by the rest.
+-- A walk over chunks that were read: each begins inside the bytes, ends where its head says, and the rest follows it.
 -- Assumes nothing.
 use mathlib.Core.Path.{_≡_, refl, sym, ap, _∙_}
 use mathlib.Core.Bool.{Bool, true, false}

@@ -12,9 +12,7 @@ use Rattle.form_check.proofs.form_in.Statement.{statement}
 use Rattle.form_check.proofs.form_in.Tie as tie
 
 judge-read-requires : tie.Need-judge-read-requires
-judge-read-requires c κs =
-    let pre = c .before .before .before .pre in
-    pre
+judge-read-requires c κs = c .before .before .before .pre
 
 enum-told : tie.Need-enum-told
 enum-told c = search needs
@@ -24,16 +22,18 @@ enum-known-count c = search needs
 
 slice-reshare-prefix-ds : tie.Need-slice-reshare-prefix-ds
 slice-reshare-prefix-ds c =
-    let s = c .before .before .before .before .before .before .before .before .before .args .s .now in
-    let judged = c .before .before .before .before .before .judge-read in
-    let t = in-accepted ReadView s _ _ (judged .ensures) _ _ _ (c .before .count .given .1) in
+    let accepted = c .before in
+    let asked = accepted .before .before .before .before in
+    let s = asked .before .before .before .before .args .s .now in
+    let t = in-accepted ReadView s _ _ (asked .judge-read .ensures) _ _ _ (accepted .count .given .1) in
     t .3 .view .long
 
 slice-aggregate-ds : tie.Need-slice-aggregate-ds
 slice-aggregate-ds c =
-    let s = c .before .before .before .before .before .before .before .before .before .before .args .s .now in
-    let judged = c .before .before .before .before .before .before .judge-read in
-    let t = in-accepted ReadView s _ _ (judged .ensures) _ _ _ (c .before .before .count .given .1) in
+    let accepted = c .before .before in
+    let asked = accepted .before .before .before .before in
+    let s = asked .before .before .before .before .args .s .now in
+    let t = in-accepted ReadView s _ _ (asked .judge-read .ensures) _ _ _ (accepted .count .given .1) in
     sym (many s _ (t .0) _ _ (t .3))
 
 is-settled-requires : tie.Need-is-settled-requires
@@ -46,18 +46,20 @@ same-length c =
 
 returns : tie.Need-returns
 returns c =
-    let s = c .before .before .before .before .before .before .before .before .before .before .before .before .args .s .now in
-    let judged = c .before .before .before .before .before .before .before .before .judge-read in
-    let t = in-accepted ReadView s _ _ (judged .ensures) _ _ _ (c .before .before .before .before .count .given .1) in
-    let bytes = c .before .before .before .before .before .before .before .before .before .before .before .shared-slice-known .given in
+    let accepted = c .before .before .before .before in
+    let asked = accepted .before .before .before .before in
+    let s = asked .before .before .before .before .args .s .now in
+    let t = in-accepted ReadView s _ _ (asked .judge-read .ensures) _ _ _ (accepted .count .given .1) in
+    let bytes = asked .before .before .before .shared-slice-known .given in
     form-unsettled s _ (t .0) _ _ (t .1) (t .3) (λ k. omega (arith, bytes k))
     (sym (c .before .is-settled .ensures) ∙ not-true _ (c .if1 .taken))
 
 heads-are-requires : tie.Need-heads-are-requires
 heads-are-requires c κs =
-    let s = c .before .before .before .before .before .before .before .before .before .before .before .before .args .s .now in
-    let judged = c .before .before .before .before .before .before .before .before .judge-read in
-    let t = in-accepted ReadView s _ _ (judged .ensures) _ _ _ (c .before .before .before .before .count .given .1) in
+    let accepted = c .before .before .before .before in
+    let asked = accepted .before .before .before .before in
+    let s = asked .before .before .before .before .args .s .now in
+    let t = in-accepted ReadView s _ _ (asked .judge-read .ensures) _ _ _ (accepted .count .given .1) in
     (view-few s _ (t .0) _ _ (t .3), view-reads s _ (t .0) _ _ (t .3))
 
 same-length-2 : tie.Need-same-length-2
@@ -78,10 +80,11 @@ same-length-3 c =
 
 returns-3 : tie.Need-returns-3
 returns-3 c =
-    let s = c .before .before .before .before .before .before .before .before .before .before .before .before .before .args .s .now in
-    let judged = c .before .before .before .before .before .before .before .before .before .judge-read in
-    let t = in-accepted ReadView s _ _ (judged .ensures) _ _ _ (c .before .before .before .before .before .count .given .1) in
-    let bytes = c .before .before .before .before .before .before .before .before .before .before .before .before .shared-slice-known .given in
+    let accepted = c .before .before .before .before .before in
+    let asked = accepted .before .before .before .before in
+    let s = asked .before .before .before .before .args .s .now in
+    let t = in-accepted ReadView s _ _ (asked .judge-read .ensures) _ _ _ (accepted .count .given .1) in
+    let bytes = asked .before .before .before .shared-slice-known .given in
     by-heads s _ (t .0) _ _ (t .3) (t .1) (λ k. omega (arith, bytes k))
     (sym (c .before .before .is-settled .ensures) ∙ not-false _ (c .before .if1 .left)) _ (c .heads-are .ensures)
 

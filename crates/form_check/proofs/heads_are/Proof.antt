@@ -8,7 +8,8 @@ use borrow.Author.Needs.{needs}
 use borrow.Author.Tests.{not-true, not-false}
 use Rattle.chunks_write.proofs.Rests.{part-length}
 use Rattle.form_check.specs.Heads.{headsAre}
-use Rattle.form_check.proofs.Walks.{Left, left-start, left-next, restHeads, rest-all, rest-none, rest-stop, rest-go, next-is, next-in, parts-few}
+use Rattle.form_check.proofs.Walks.{Left, left-start, left-next, next-is, next-in, parts-few}
+use Rattle.form_check.proofs.Walks.{restHeads, rest-all, rest-none, rest-stop, rest-go}
 use Rattle.form_check.proofs.heads_are.Statement.{statement}
 use Rattle.form_check.proofs.heads_are.Tie as tie
 
@@ -130,7 +131,8 @@ loop-again c =
     let on = left-next s (l .at) (length ds) (l .i) (e .result) (e .ensures .0) (e .ensures .1) (e .ensures .2)
     (e .ensures .3) (l .inv .1) in
     let h = c .before .before .before .before .before .before .head-at in
-    let holds = sym (c .before .before .before .before .head-is .ensures) ∙ not-false _ (c .before .before .before .if1 .left) in
+    let compared = c .before .before .before in
+    let holds = sym (compared .before .head-is .ensures) ∙ not-false _ (compared .if1 .left) in
     let go = rest-go s ds (l .at) (l .i) (e .result) (e .ensures .0) (e .ensures .1) (e .ensures .2) (e .ensures .3)
     (h .result) (h .ensures .0) holds in (
       e .ensures .1,
