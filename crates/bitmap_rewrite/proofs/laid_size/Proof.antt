@@ -1,3 +1,4 @@
+-- Header, chunks and the bytes from `start` on are the parts of what is laid.
 -- Assumes nothing.
 use lib.Seq.{length-take-le}
 use Rattle.bitmap_rewrite.proofs.Laying.{length-laid}

@@ -1,3 +1,4 @@
+-- The first i descriptors are at most 32, the others are as they were.
 -- Assumes nothing.
 use mathlib.Core.Logic.{⊎-elim}
 use lib.ListN.{length-set}

@@ -14,7 +14,9 @@ same-length : tie.Need-same-length
 same-length c = search needs
 
 returns : tie.Need-returns
-returns c = dropped _ _ _ _ _ _ _ (c .before .before .before .drop-slot .ensures) (c .status-of .ensures)
+returns c =
+    let drop-slot = c .before .before .before .drop-slot in
+    dropped _ _ _ _ _ _ _ (drop-slot .ensures) (c .status-of .ensures)
 
 pub store-drop-spec : {M : Type 1} → statement M
 store-drop-spec = tie.close (tie.spec drop-slot-requires status-of-requires same-length returns)

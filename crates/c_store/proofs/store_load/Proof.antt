@@ -17,7 +17,9 @@ same-length-2 : tie.Need-same-length-2
 same-length-2 c = search needs
 
 returns : tie.Need-returns
-returns c = changed _ _ _ _ _ _ _ (c .before .before .before .before .before .load .ensures) (c .status-of .ensures)
+returns c =
+    let load = c .before .before .before .before .before .load in
+    changed _ _ _ _ _ _ _ (load .ensures) (c .status-of .ensures)
 
 pub store-load-spec : {M : Type 1} → statement M
 store-load-spec =

@@ -17,7 +17,9 @@ same-length-2 : tie.Need-same-length-2
 same-length-2 c = search needs
 
 returns : tie.Need-returns
-returns c = changed _ _ _ _ _ _ _ (c .before .before .before .before .before .put .ensures) (c .status-of .ensures)
+returns c =
+    let put = c .before .before .before .before .before .put in
+    changed _ _ _ _ _ _ _ (put .ensures) (c .status-of .ensures)
 
 pub store-put-spec : {M : Type 1} → statement M
 store-put-spec =

@@ -12,7 +12,9 @@ use Rattle.form_check.proofs.form_in.Statement.{statement}
 use Rattle.form_check.proofs.form_in.Tie as tie
 
 judge-read-requires : tie.Need-judge-read-requires
-judge-read-requires c κs = c .before .before .before .pre
+judge-read-requires c κs =
+    let pre = c .before .before .before .pre in
+    pre
 
 enum-told : tie.Need-enum-told
 enum-told c = search needs

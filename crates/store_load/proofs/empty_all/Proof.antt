@@ -1,3 +1,4 @@
+-- The first k slots have length 0.
 -- Assumes nothing.
 use lib.ListN.{length-set}
 use mathlib.Core.Logic.{⊎-elim}

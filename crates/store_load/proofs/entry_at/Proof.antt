@@ -27,7 +27,8 @@ returns c =
 returns-2 : tie.Need-returns-2
 returns-2 c =
     let read = c .before .before .before in
-    long-bad _ _ _ (read .before .before .varint .ensures) _ _ _ (read .n .given .1) (not-false _ (c .before .if1 .left))
+    long-bad _ _ _ (read .before .before .varint .ensures) _ _ _ (read .n .given .1)
+    (not-false _ (c .before .if1 .left))
     (omega (arith, c .if2 .taken))
 
 cast-m : tie.Need-cast-m

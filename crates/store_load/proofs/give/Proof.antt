@@ -1,3 +1,4 @@
+-- The bytes go behind all that lies there, so the slots before keep their entries; an empty entry changes nothing.
 -- Assumes nothing.
 use lib.ListN.{length-set}
 use Rattle.store_load.proofs.Steps.{give-none, give-some, given-few}

@@ -1,3 +1,4 @@
+-- The first k slots hold the first k entries, laid one behind the other; the sum of all fits, so the next fits too.
 -- Assumes nothing.
 use mathlib.Core.List.{List, [], _∷_, _++_}
 use lib.ListN.{take, drop}

@@ -1,3 +1,4 @@
+-- What is left to scan from `at` on gives what the whole scan gives; t is the length of the entries so far.
 -- Assumes nothing.
 use mathlib.Core.List.{List, [], _∷_, _++_}
 use lib.ListN.{take, drop}

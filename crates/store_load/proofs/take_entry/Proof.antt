@@ -42,16 +42,22 @@ is-form-requires c κs = search needs
 
 returns-2 : tie.Need-returns-2
 returns-2 c =
-    let f = frame _ _ _ (c .before .before .before .before .before .before .before .entry-at .ensures) _ _ (c .before .before .before .before .before .a .given .1) in
-    form-good _ _ _ _ (f .0) (f .1) (c .before .before .before .if1 .left) (sym (c .if2 .taken) ∙ c .before .is-form .ensures)
+    let entry-at = c .before .before .before .before .before .before .before .entry-at in
+    let a = c .before .before .before .before .before .a in
+    let if1 = c .before .before .before .if1 in
+    let f = frame _ _ _ (entry-at .ensures) _ _ (a .given .1) in
+    form-good _ _ _ _ (f .0) (f .1) (if1 .left) (sym (c .if2 .taken) ∙ c .before .is-form .ensures)
 
 returns-3 : tie.Need-returns-3
 returns-3 c = take-bad _ _ (frame-bad _ _ _ (c .before .before .entry-at .ensures) (c .enum-told .given .1))
 
 returns-4 : tie.Need-returns-4
 returns-4 c =
-    let f = frame _ _ _ (c .before .before .before .before .before .before .before .entry-at .ensures) _ _ (c .before .before .before .before .before .a .given .1) in
-    form-bad _ _ _ _ (f .0) (f .1) (c .before .before .before .if1 .left) (sym (c .if2 .left) ∙ c .before .is-form .ensures)
+    let entry-at = c .before .before .before .before .before .before .before .entry-at in
+    let a = c .before .before .before .before .before .a in
+    let if1 = c .before .before .before .if1 in
+    let f = frame _ _ _ (entry-at .ensures) _ _ (a .given .1) in
+    form-bad _ _ _ _ (f .0) (f .1) (if1 .left) (sym (c .if2 .left) ∙ c .before .is-form .ensures)
 
 pub take-entry-spec : {M : Type 1} → statement M
 take-entry-spec =

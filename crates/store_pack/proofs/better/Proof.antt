@@ -1,3 +1,4 @@
+-- Slot j is passed over, or compared with the best so far by its start.
 -- Assumes nothing.
 use Rattle.store_laws.proofs.Packing.{best-skip, best-keep, best-new}
 use native.Mathlib.Omega.{arith}

@@ -1,3 +1,4 @@
+-- After j slots `best` is the best of them; after all it is the one looked for.
 -- Assumes nothing.
 use Rattle.store_laws.proofs.Packing.{Best, best-start}
 use borrow.Author.Needs.{needs}

@@ -1,3 +1,5 @@
+-- All that starts before `to` is in place, and the next to move starts first of the rest, so nothing is written over
+-- before it is read. The measure is what is left of the buffer.
 -- Assumes nothing.
 use lib.ListN.{length-set}
 use Rattle.store_laws.proofs.Packing.{Packing, Best, pack-start, pack-end}

@@ -1,3 +1,4 @@
+-- t is the sum of the first k lengths.
 -- Assumes nothing.
 use Rattle.bitmap_spec.proofs.Tally.{tally}
 use Rattle.store_spec.specs.Store.{lengthAt}

@@ -1,3 +1,4 @@
+-- t is the sum of the first k entries' sizes.
 -- Assumes nothing.
 use Rattle.bitmap_spec.proofs.Tally.{tally}
 use Rattle.store_save.specs.Size.{entrySize}

@@ -1,3 +1,4 @@
+-- The definition's number of groups, by the powers of 128.
 -- Assumes nothing.
 use Rattle.store_save.proofs.Sizes.{one-group, two-groups, three-groups}
 use mathlib.Core.Path.{sym, ap}

@@ -1,3 +1,4 @@
+-- The entries of the first k slots are written; the rest is what is still to come.
 -- Assumes nothing.
 use mathlib.Core.List.{map}
 use Rattle.common.specs.Lists.{from}

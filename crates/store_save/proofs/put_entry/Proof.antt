@@ -1,3 +1,4 @@
+-- A length, and behind it the entry's bytes.
 -- Assumes nothing.
 use lib.ListN.{length-append}
 use Rattle.row_spec.specs.Varint.{shortest}
@@ -67,8 +68,10 @@ copy-part-requires c κs =
     let ends = pre .3 (omega (arith, length-of .ensures .0, found .before .if1 .left)) in
     let room = entry-room (args .dir .now) (args .buf .now) (args .out .now) (args .k) (args .at) (length-of .result)
     (put-groups .result) (length-of .ensures .0) ends (put-groups .ensures .0) (pre .4) in
-    let part = end-is (args .dir .now) (args .k) in
-    (omega (arith, found .start-of .ensures .0, length-of .ensures .0, part, ends), omega (arith, put-groups .kept .1 .0))
+    let part = end-is (args .dir .now) (args .k) in (
+      omega (arith, found .start-of .ensures .0, length-of .ensures .0, part, ends),
+      omega (arith, put-groups .kept .1 .0),
+    )
 
 add-result : tie.Need-add-result
 add-result c =

@@ -1,3 +1,4 @@
+-- Each case is the definition's, with one, two or three groups.
 -- Assumes nothing.
 use lib.ListN.{length-set}
 use Rattle.bitmap_spec.specs.Output.{written}

@@ -1,3 +1,4 @@
+-- A sound share whose slot is not empty stays sound with that length 0, and its other entries stay.
 -- Assumes nothing.
 use borrow.Author.Tests.{not-true, not-false}
 use Rattle.store_spec.specs.Store.{dropIn}

@@ -1,3 +1,4 @@
+-- Each test is the definition's; in a sound share the entry lies inside the buffer.
 -- Assumes nothing.
 use borrow.Author.Tests.{not-true, not-false}
 use Rattle.store_spec.specs.Store.{fetchIn}
@@ -48,7 +49,8 @@ copy-part-requires c κs =
     let tested = c .before .before in
     let pre = tested .before .before .before .before .before .before .before .before .pre in
     let length-of = tested .before .before .length-of in
-    let sound = lies _ _ _ _ (tested .before .before .before .before .is-sound .ensures) (not-false _ (tested .before .before .before .if1 .left)) in
+    let sound = lies _ _ _ _ (tested .before .before .before .before .is-sound .ensures)
+    (not-false _ (tested .before .before .before .if1 .left)) in
     let inside = ends-inside _ _ _ _ _ sound (pre .2) (pre .1) (length-of .ensures .0) (tested .before .if2 .left) in
     (omega (arith, c .before .start-of .ensures .0, inside), omega (arith, tested .if3 .left))
 
@@ -61,7 +63,8 @@ returns-4 c =
     let pre = tested .before .before .before .before .before .before .before .before .pre in
     let length-of = tested .before .before .length-of in
     let start-of = c .before .before .before .before .start-of in
-    let sound = lies _ _ _ _ (tested .before .before .before .before .is-sound .ensures) (not-false _ (tested .before .before .before .if1 .left)) in
+    let sound = lies _ _ _ _ (tested .before .before .before .before .is-sound .ensures)
+    (not-false _ (tested .before .before .before .if1 .left)) in
     fetch-done _ _ _ _ _ sound (pre .2) (pre .1) (length-of .ensures .0) (tested .before .if2 .left) _ _
     (start-of .result) (start-of .ensures .0) (tested .if3 .left) (c .before .before .copy-part .ensures)
 

@@ -1,3 +1,4 @@
+-- All forms are packed before `end`, so the new one overlaps none and its slot was empty.
 -- Assumes nothing.
 use lib.ListN.{length-set}
 use Rattle.bitmap_rewrite.specs.Settled.{laid}

@@ -1,3 +1,4 @@
+-- The share and the bitmap are judged; what is left is the form put in place of the slot's.
 -- Assumes nothing.
 use borrow.Author.Tests.{not-true, not-false}
 use lib.Seq.{length-take-le}

@@ -1,3 +1,4 @@
+-- The lengths of the other slots and the new one are what the definition sums; nothing is changed before that test.
 -- Assumes nothing.
 use lib.ListN.{length-set}
 use mathlib.Core.List.{[]}

@@ -1,3 +1,4 @@
+-- The first k slots lie apart from all below them.
 -- Assumes nothing.
 use mathlib.Core.Bool.{true}
 use borrow.Author.Tests.{not-true, not-false}

@@ -1,3 +1,4 @@
+-- Slot k lies apart from the first j slots.
 -- Assumes nothing.
 use mathlib.Core.Bool.{true}
 use borrow.Author.Tests.{not-true, not-false}

@@ -1,3 +1,4 @@
+-- The definition's two tests, one after the other.
 -- Assumes nothing.
 use borrow.Author.Tests.{not-true, not-false}
 use Rattle.store_slots.proofs.Steps.{slots-fail, slots-hold}

@@ -1,3 +1,4 @@
+-- The number is in the directory.
 -- Assumes nothing.
 use Rattle.store_spec.specs.Store.{lengthAt}
 use mathlib.Core.Path.{refl}

@@ -1,3 +1,4 @@
+-- Each test is the definition's; start and length are below 2^32, so their sum is exact.
 -- Assumes nothing.
 use Rattle.store_slots.proofs.Steps.{ok-empty, ok-outside, ok-inside}
 use mathlib.Core.Path.{_∙_}

@@ -1,3 +1,4 @@
+-- The first k slots are empty or hold forms.
 -- Assumes nothing.
 use mathlib.Core.Bool.{true}
 use borrow.Author.Tests.{not-true, not-false}
