@@ -21,7 +21,7 @@
  *   10  sparse not rising, or dense under 32     33  bad number of entries, or index past them
  *   11  cardinality wrong                        34  spare bits set
  *   12  positions not strictly rising or too big 35  null in a NOT NULL column
- *   13  written form longer than the output      36  bytes left over
+ *   13  written form longer than its room        36  bytes left over
  *                                                37  bucket too long or over 65,536 rows
  *
  *   40  store: slot number over 63               42  store: its own bytes are not forms lying apart,

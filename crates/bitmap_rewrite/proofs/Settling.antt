@@ -1,21 +1,18 @@
 -- Settled descriptors describe the set of a judged bitmap, and lay out its form.
 -- Assumes nothing.
 use mathlib.Core.Path.{_≡_, refl, sym, ap, _∙_}
-use mathlib.Core.Logic.{⊎-elim}
 use mathlib.Core.Bool.{false}
-use mathlib.Core.List.{List, [], _∷_, _++_, map, append-assoc, append-nil}
-use Prim.Native.Nat.{ℕ, zero, suc, _+_, _-_, _*_, _/_, _%_, _≤_, _<_, min}
-use native.Mathlib.Nat.{zero-add}
+use mathlib.Core.List.{List, map}
+use Prim.Native.Nat.{ℕ, _+_, _*_, _/_, _%_, _≤_, _<_, min}
 use native.Mathlib.Omega.{arith}
 use lib.ListN.{length, getD, take, drop, length-map}
-use lib.Seq.{take-take, getD-take, length-take-le, ext-getD}
+use lib.Seq.{getD-take, length-take-le, ext-getD}
 use Rattle.common.specs.Outcome.{found}
 use Rattle.common.specs.Lists.{from, mem}
 use Rattle.bitmap_spec.specs.Judge.{judge}
-use Rattle.bitmap_spec.specs.Form.{cut, countOf, descriptorOf, writeContainer, writeContainers, form}
-use Rattle.bitmap_spec.proofs.Window.{below-or}
+use Rattle.bitmap_spec.specs.Form.{cut, countOf, descriptorOf, writeContainers, form}
 use Rattle.bitmap_laws.proofs.Accept.{judge-set}
-use Rattle.bitmap_laws.proofs.Cuts.{from-cat, length-from}
+use Rattle.bitmap_laws.proofs.Cuts.{length-from}
 use Rattle.bitmap_laws.proofs.Round.{form-is}
 use Rattle.bitmap_laws.proofs.Values.{map-at}
 use Rattle.bitmap_read.proofs.Held.{has-at, has-not}

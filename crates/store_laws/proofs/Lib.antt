@@ -9,3 +9,4 @@ pub mod Scans
 pub mod Loads
 pub mod Returns
 pub mod Status
+pub mod Calls

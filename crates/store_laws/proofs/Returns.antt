@@ -1,20 +1,18 @@
--- What save wrote, load finds again, and each slot then fetches its entry.
+-- What save wrote, load finds again.
 -- Assumes nothing.
-use mathlib.Core.Path.{_≡_, refl, sym, ap, _∙_}
+use mathlib.Core.Path.{_≡_, sym, ap, _∙_}
 use mathlib.Core.Logic.{_⊎_, inl, inr, ⊎-elim}
 use mathlib.Core.Bool.{true}
-use mathlib.Core.List.{List, [], _∷_, _++_}
-use Prim.Native.Nat.{ℕ, zero, suc, _+_, _*_, _/_, _%_, _≤_, _<_}
+use mathlib.Core.List.{List, []}
+use Prim.Native.Nat.{ℕ, _*_, _≤_, _<_}
 use native.Mathlib.Omega.{arith}
-use borrow.Author.Tests.{lt-ltb, eq-eqb}
-use lib.ListN.{length, getD, take, drop, length-append, List·getD-eq-default}
+use lib.ListN.{length, getD, List·getD-eq-default}
 use lib.Dec.{leb, eqb}
-use lib.Seq.{take-at, drop-at, getD-take, getD-drop}
-use Rattle.common.specs.Outcome.{Outcome, found, then, need}
+use Rattle.common.specs.Outcome.{found}
 use Rattle.bitmap_spec.specs.Output.{placed}
 use Rattle.bitmap_spec.proofs.Window.{below-or}
 use Rattle.bitmap_laws.proofs.Accept.{then-found}
-use Rattle.store_spec.specs.Store.{lengthAt, entryAt, sound, entriesOf, entries, total, fetchIn, fetchOn}
+use Rattle.store_spec.specs.Store.{lengthAt, entryAt, sound, entriesOf, entries, total}
 use Rattle.store_laws.proofs.Answers.{found-is, need-found}
 use Rattle.store_laws.proofs.Slots.{Lies, sound-lies, many-entries, entry-is}
 use Rattle.store_laws.proofs.Changes.{entry-none}
@@ -66,9 +64,3 @@ save-load out dir buf w dir′ room e len fits =
     let g : Saves (t .0) w =
     record { many = h .many; each = h .each; bytes = sym (placed-is (saved (t .0)) w out (t .2)) } in
     load-saved dir′ room w (t .0) len g (omega (arith, h .fits)) ∙ sym (t .1)
-
--- ---- each slot then fetches its entry
-pub load-fetch : (out k : ℕ) (dir buf : List ℕ) (es : List (List ℕ)) → entries 64 dir buf ≡ found es → k < 64
-    → fetchOn k out dir buf ≡ fetchIn out k es
-unfolding fetchOn need
-load-fetch out k dir buf es e h = rw (lt-ltb k 64 h, e)

@@ -9,7 +9,7 @@ use native.Mathlib.Omega.{arith}
 use borrow.Author.Tests.{eq-eqb, ne-eqb}
 use lib.ListN.{length, take, drop, length-append}
 use lib.Dec.{leb, eqb}
-use Rattle.common.specs.Outcome.{either, Outcome, refused, found, then, need}
+use Rattle.common.specs.Outcome.{either, Outcome, refused, found, need}
 use Rattle.bitmap_laws.proofs.Accept.{then-found}
 use Rattle.row_spec.specs.Varint.{varintAt}
 use Rattle.row_spec.specs.declared.Varint.{Varint}

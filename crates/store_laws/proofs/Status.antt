@@ -1,6 +1,6 @@
 -- No call on a store refuses with 0: each definition is a walk down nested needs, and no need's number is 0.
 -- Assumes nothing.
-use mathlib.Core.Bool.{Bool, true, false}
+use mathlib.Core.Bool.{true, false}
 use mathlib.Core.List.{List, [], _∷_, _++_}
 use Prim.Native.Nat.{ℕ, zero, suc}
 use Rattle.common.specs.Outcome.{refused, Numbered}

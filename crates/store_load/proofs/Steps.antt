@@ -9,7 +9,6 @@ use native.Mathlib.Nat.{eq-or-lt-of-le}
 use native.Mathlib.Omega.{arith}
 use borrow.Author.Tests.{eq-eqb, ne-eqb, le-leb, lt-leb}
 use lib.ListN.{length, getD, set, take, drop, length-append, length-set, List·getD-append, List·getD-eq-default}
-use lib.Dec.{leb}
 use lib.Seq.{ext-getD, getD-append-seam, getD-set-same, getD-set-other}
 use Rattle.common.specs.Outcome.{Outcome, refused, found, need}
 use Rattle.bitmap_spec.specs.Output.{written}

@@ -1,7 +1,6 @@
 -- Each test is the definition's.
 -- Assumes nothing.
 use borrow.Author.Tests.{eq-eqb, ne-eqb}
-use borrow.Author.Needs.{needs}
 use Rattle.form_check.proofs.exceptions_are.Statement.{statement}
 use Rattle.form_check.proofs.exceptions_are.Tie as tie
 

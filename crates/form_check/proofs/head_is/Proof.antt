@@ -1,6 +1,6 @@
 -- The least, the width, the number of exceptions and the second width, in this order.
 -- Assumes nothing.
-use mathlib.Core.Path.{_∙_, sym}
+use mathlib.Core.Path.{_∙_}
 use Rattle.form_check.proofs.Compare.{other-least, flat, other-width, by-exceptions}
 use borrow.Author.Needs.{needs}
 use Rattle.form_check.proofs.head_is.Statement.{statement}

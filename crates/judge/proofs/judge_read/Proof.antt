@@ -1,6 +1,6 @@
 -- 1, 2, 3, then the chunks, then the body: each answer is the definition's, and the view is what the body's tests say.
 -- Assumes nothing.
-use Prim.Native.Nat.{_/_, _%_, ℕ, _+_, _-_, _*_}
+use Prim.Native.Nat.{_/_, _%_, ℕ, _+_, _*_}
 use lib.ListN.{length, take, getD}
 use mathlib.Core.List.{[]}
 use mathlib.Core.Path.{_≡_, refl, sym, ap, _∙_}

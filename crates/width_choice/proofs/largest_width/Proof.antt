@@ -1,6 +1,6 @@
 -- The widest value is that of the largest descriptor.
 -- Assumes nothing.
-use mathlib.Core.Path.{_≡_, ap, _∙_}
+use mathlib.Core.Path.{ap, _∙_}
 use Prim.Native.Nat.{_-_}
 use native.Mathlib.Omega.{arith}
 use Rattle.bitmap_spec.specs.Form.{width}
