@@ -115,7 +115,8 @@ uint32_t bv_bitmap_symmetric_difference(const uint8_t *a, size_t a_len, const ui
  *
  * Put and load may move forms: after them the slots hold what is said below, and where forms lie, the
  * starts of empty slots and all bytes of the buffer outside forms are free. A refused call leaves
- * buffer, directory and output as they were.
+ * buffer, directory and output as they were. Nothing else that is handed in overlaps buffer or
+ * directory.
  */
 enum {
     BV_STORE_DIRECTORY = 128
@@ -124,7 +125,7 @@ enum {
 /*
  * The slot holds the bitmap's written form, in place of what it held; the other slots hold what they
  * held. Refusals 40, 42, the bitmap's 1 to 11, then 13: exactly if the forms in the other slots and
- * the new one are together longer than the buffer. The bitmap does not lie in the buffer.
+ * the new one are together longer than the buffer.
  */
 uint32_t bv_store_put(uint8_t *buffer, size_t len, uint32_t *directory, size_t numbers,
                       uint32_t slot, const uint8_t *bitmap, size_t bitmap_len);
@@ -140,7 +141,7 @@ uint32_t bv_store_drop(const uint8_t *buffer, size_t len, uint32_t *directory, s
 /*
  * The whole store as bytes: 64 entries in the order of the slots, each a length in groups of seven
  * bits, shortest, and then the form's bytes; 00 for an empty slot. *length is their length, the rest
- * of out is unchanged. Refusals 42, 13.
+ * of out is unchanged. Refusals 42, 13: they are longer than out.
  */
 uint32_t bv_store_save(const uint8_t *buffer, size_t len, const uint32_t *directory, size_t numbers,
                        uint8_t *out, size_t room, size_t *length);

@@ -91,7 +91,7 @@ pub cost-whole : (vs : List ℕ) (b : ℕ) → length vs ≡ 256 → cost vs b �
 unfolding cost wholeCost
 cost-whole vs b h = rw (h, ceil-whole b)
 
-none-wider : (b : ℕ) (vs : List ℕ) → largest (map width vs) ≤ b → length (wider b vs) ≡ 0
+pub none-wider : (b : ℕ) (vs : List ℕ) → largest (map width vs) ≤ b → length (wider b vs) ≡ 0
 unfolding wider keep largest
 none-wider b [] h = refl
 none-wider b (v ∷ vs) h = rw (le-ltb b (width v) (omega arith)) (none-wider b vs (omega arith))

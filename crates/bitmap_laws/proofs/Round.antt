@@ -39,7 +39,7 @@ card-is : (card n : ℕ) (t : List ℕ) → card < 16777216 → littleAt (header
 unfolding littleAt header
 card-is card n t h = omega arith
 
-count-is : (card n : ℕ) (t : List ℕ) → n < 65536 → littleAt (header card n ++ t) 4 2 ≡ n
+pub count-is : (card n : ℕ) (t : List ℕ) → n < 65536 → littleAt (header card n ++ t) 4 2 ≡ n
 unfolding littleAt header
 count-is card n t h = omega arith
 

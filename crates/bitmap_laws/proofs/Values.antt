@@ -36,7 +36,7 @@ all-at n (x ∷ xs) zero a h = a .0
 all-at n (x ∷ xs) (suc i) a h = all-at n xs i (a .1) (le-of-suc-le-suc h)
 
 -- ---- the least value
-smallest-le : (m : ℕ) (xs : List ℕ) → smallest m xs ≤ m
+pub smallest-le : (m : ℕ) (xs : List ℕ) → smallest m xs ≤ m
 unfolding smallest
 smallest-le m [] = omega arith
 smallest-le m (x ∷ xs) = omega (arith, smallest-le (min m x) xs)

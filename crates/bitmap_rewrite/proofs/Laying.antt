@@ -1,18 +1,16 @@
 -- The parts of a form laid one behind the other, and a bitmap whose form is laid so.
 -- Assumes nothing.
-use mathlib.Core.Path.{_≡_, refl, sym, ap, _∙_}
-use mathlib.Core.Logic.{⊎-elim}
-use mathlib.Core.List.{List, [], _∷_, _++_, append-assoc}
-use Prim.Native.Nat.{ℕ, _+_, _-_, _*_, _/_, _≤_, _<_}
+use mathlib.Core.Path.{_≡_, sym, ap, _∙_}
+use mathlib.Core.List.{List, _++_, append-assoc}
+use Prim.Native.Nat.{ℕ, _+_, _-_, _/_, _≤_, _<_}
 use native.Mathlib.Omega.{arith}
 use lib.ListN.{length, getD, take, drop, length-append, length-drop}
 use lib.Seq.{length-take-le}
 use Rattle.common.specs.Outcome.{refused, found}
-use Rattle.common.specs.Lists.{sum}
-use Rattle.bitmap_spec.specs.Judge.{judge, sizeOf}
-use Rattle.bitmap_spec.proofs.Window.{below-or}
+use Rattle.bitmap_spec.specs.Judge.{judge}
 use Rattle.bitmap_spec.specs.Form.{form, writeChunks}
 use Rattle.bitmap_spec.specs.Output.{written}
+use Rattle.bitmap_laws.proofs.Length.{sum-le}
 use Rattle.bitmap_laws.proofs.Output.{written-cat}
 use Rattle.bitmap_laws.proofs.Round.{header, six-is}
 use Rattle.bitmap_laws.proofs.Values.{AllLe}
@@ -95,22 +93,12 @@ unfolding Prepares
 told-ready s d r p n start card size e = rw e at p
 
 -- ---- the containers of few descriptors take few bytes
-size-few : (d : ℕ) → sizeOf d ≤ 32
-size-few d =
-    ⊎-elim (λ h. let e = whole.size-low d d h refl in omega arith)
-    (λ h. let e = whole.size-high d 32 h refl in omega arith) (below-or d 32)
-
-sizes-few : (ds : List ℕ) → sum sizeOf ds ≤ 32 * length ds
-unfolding sum
-sizes-few [] = omega arith
-sizes-few (d ∷ ds) = omega (arith, sizes-few ds, size-few d)
-
 pub tail-few : (s d l : List ℕ) (n start : ℕ) → SliceView s d n start l
     → (start ≤ length s) × (length s ≤ start + 262144) × (n ≤ length d)
 tail-few s d l n start v = (
   omega (arith, v .ends),
   omega
-      (arith, v .ends, v .few, v .long, sizes-few (take n d), length-take-le n d (v .long)),
+      (arith, v .ends, v .few, v .long, sum-le (take n d), length-take-le n d (v .long)),
   v .long,
 )
 

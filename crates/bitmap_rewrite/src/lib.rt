@@ -74,10 +74,10 @@ pub fn prepare(s: &[u8], d: &mut [u8; 8192]) -> Prepared
 }
 
 // Writes the form of the judged bitmap s, whose settled descriptors are ds, from the start of out on.
-pub fn put_laid(s: &[u8], start: usize, ds: &[u8], card: u32, out: &mut [u8]) -> usize
+pub fn put_laid(s: &[u8], start: usize, ds: &[u8], card: u32, out: &mut [u8])
     requires { ⌜ (start ≤ length (now s)) × (length (now ds) ≤ 8192) × AllLe 63 (now ds) × (length (laid (now s) start (now ds) card) ≤ length (now out)) ⌝ }
     ensures { λ r. ⌜ now (out .exit) ≡ written (now (out .entry)) 0 (laid (now (s .entry)) start (now (ds .entry)) card) ⌝ }
 {
     let to = form_write::put_head(ds, card, out);
-    byte_move::copy_part(s, start, s.len() - start, out, to)
+    byte_move::copy_part(s, start, s.len() - start, out, to);
 }

@@ -32,7 +32,7 @@ tally-same f g k l zero h = refl
 tally-same f g k l (suc n) h = ap₂ (λ (x y : ℕ). x + y) (tally-same f g k l n (λ i p. h i (omega arith))) (h n (omega arith))
 
 -- what is kept of a run is counted from the front ..
-tally-cons : (f : ℕ → ℕ) (k n : ℕ) → tally f k (suc n) ≡ f k + tally f (suc k) n
+pub tally-cons : (f : ℕ → ℕ) (k n : ℕ) → tally f k (suc n) ≡ f k + tally f (suc k) n
 unfolding tally
 tally-cons f k zero = rw (add-zero k) (omega arith)
 tally-cons f k (suc n) = rw (tally-cons f k n, suc-add k n, add-suc k n) (omega arith)

@@ -42,17 +42,16 @@ pub fn move_up(s: &mut [u8], from: usize, to: usize, n: usize) -> usize
 }
 
 // Moves the n bytes of s from `from` on down to `to`: the first first, so that each is read before it is written over.
-pub fn move_down(s: &mut [u8], from: usize, to: usize, n: usize) -> usize
+pub fn move_down(s: &mut [u8], from: usize, to: usize, n: usize)
     requires { ⌜ (to ≤ from) × (from + n ≤ length (now s)) ⌝ }
     ensures { λ r. ⌜ now (s .exit) ≡ written (now (s .entry)) to (take n (drop from (now (s .entry)))) ⌝ }
 {
     if from == to {
-        return n;
+        return;
     }
     let mut i: usize = 0;
     while i < n {
         s[to + i] = s[from + i];
         i += 1;
     }
-    n
 }

@@ -1,24 +1,18 @@
 -- A chunk's head compared, part by part, with that of the written chunk.
 -- Assumes nothing.
-use mathlib.Core.Path.{_≡_, refl, sym, ap, _∙_}
+use mathlib.Core.Path.{_≡_, sym, ap, _∙_}
 use mathlib.Core.Bool.{false}
-use mathlib.Core.List.{List, [], _∷_, map}
-use Prim.Native.Nat.{ℕ, _-_, _≤_}
+use mathlib.Core.List.{List, map}
+use Prim.Native.Nat.{ℕ, _-_}
 use native.Mathlib.Omega.{arith}
-use borrow.Author.Tests.{le-ltb, eq-eqb, ne-eqb}
+use borrow.Author.Tests.{eq-eqb, ne-eqb}
 use lib.Dec.{eqb}
 use lib.ListN.{length}
-use Rattle.common.specs.Lists.{keep}
 use Rattle.common.specs.Outcome.{pick, both}
 use Rattle.bitmap_spec.specs.Form.{least, largest, width, wider, cheapest}
 use Rattle.bitmap_spec.specs.declared.ChunkHead.{ChunkHead}
+use Rattle.bitmap_laws.proofs.Length.{none-wider}
 use Rattle.form_check.specs.Heads.{headOf, headIs}
-
--- no value is wider than the widest
-none-wider : (b : ℕ) (vs : List ℕ) → largest (map width vs) ≤ b → length (wider b vs) ≡ 0
-unfolding wider keep largest
-none-wider b [] h = refl
-none-wider b (v ∷ vs) h = rw (le-ltb b (width v) (omega arith)) (none-wider b vs (omega arith))
 
 -- the head of one value, and of no width
 flat-head : (h : ChunkHead) (vs : List ℕ) (m : ℕ) → largest (map width vs) ≡ 0

@@ -21,7 +21,7 @@ use Rattle.bitmap_spec.specs.Form.{cost, form, writeChunks}
 use Rattle.bitmap_spec.proofs.Reading.{need-found}
 use Rattle.bitmap_spec.proofs.Window.{below-or}
 use Rattle.bitmap_laws.specs.Widths.{chosenBy}
-use Rattle.bitmap_laws.proofs.Round.{header, six-is}
+use Rattle.bitmap_laws.proofs.Round.{header, six-is, count-is}
 use Rattle.bitmap_laws.proofs.Values.{AllLe, chosen-le, map-at}
 use Rattle.bitmap_laws.proofs.Written.{chunks-back, chunks-by}
 use Rattle.judge.specs.Post.{ReadView}
@@ -144,10 +144,6 @@ header-is s card n small room v c e =
     let r : n / 256 ≡ getD s 5 0 = omega (arith, small 4) in
     let h : n / 256 % 256 ≡ getD s 5 0 = rw r (omega (arith, small 5)) in
     six-first s room ∙ rw (v, a, b, f, g, h)
-
-count-is : (card n : ℕ) (t : List ℕ) → n < 65536 → littleAt (header card n ++ t) 4 2 ≡ n
-unfolding littleAt header
-count-is card n t h = omega arith
 
 -- ---- accepted bytes that are viewed
 module _ (s d l : List ℕ) (n start : ℕ) (j : judge s ≡ found l) (v : ReadView s d n start l)

@@ -1,5 +1,5 @@
-// Whether bytes are the written form of the set that they stand for: they are judged, and then the widths and the number of exceptions of
-// each chunk are compared with those of its written form. Inner: no entry point.
+// Whether bytes are the written form of the set that they stand for: they are judged, their descriptors must be those of a form, and the
+// least value, widths and number of exceptions of each chunk those of its written form. Inner: no entry point.
 ghost use mathlib.Core.Path.{_≡_};
 ghost use Prim.Native.Nat.{_/_, _≤_, _<_};
 ghost use lib.ListN.{length};

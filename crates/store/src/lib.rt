@@ -1,4 +1,4 @@
-// A store of up to 64 numbered bitmaps in one lent buffer (02: a shelf of zone masks): put, fetch, drop, save, load.
+// A store of up to 64 numbered bitmaps in one lent buffer: put, fetch, drop, save, load.
 // The directory has 128 numbers: for slot k, number 2k says where its form starts in the buffer and number 2k + 1 how long it is; a
 // length of 0 is an empty slot. A fresh directory is all zeros. A refused call leaves directory, buffer and output as they were.
 ghost use lib.ListN.{length};

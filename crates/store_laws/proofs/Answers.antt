@@ -3,28 +3,21 @@
 -- Assumes nothing.
 use mathlib.Core.Path.{_≡_, refl, sym, _∙_}
 use mathlib.Core.Logic.{⊎-elim}
-use mathlib.Core.Bool.{Bool, true, false}
+use mathlib.Core.Bool.{true}
 use mathlib.Core.List.{List, []}
 use Prim.Native.Nat.{ℕ, _≤_, _<_}
 use native.Mathlib.Omega.{arith}
 use borrow.Author.Tests.{le-leb, lt-leb}
 use lib.ListN.{length, getD, set, length-set, List·getD-eq-default}
 use lib.Seq.{getD-set-same, getD-set-other}
-use Rattle.common.specs.Outcome.{Outcome, refused, found, need}
+use Rattle.common.specs.Outcome.{refused, found, need}
 use Rattle.bitmap_spec.specs.Judge.{judge}
 use Rattle.bitmap_spec.specs.Form.{formOf, form}
 use Rattle.bitmap_spec.specs.Output.{placed}
+use Rattle.common.proofs.Outcomes.{same-found}
+use Rattle.bitmap_spec.proofs.Reading.{need-found}
 use Rattle.bitmap_spec.proofs.Window.{below-or}
 use Rattle.store_spec.specs.Store.{some, total, putIn, fetchIn, dropIn}
-
-pub found-is : {A : Type 0} (x y : A) → found x ≡ found y → x ≡ y
-found-is x y e = cc
-
-pub need-found : {A : Type 0} (b : Bool) (n : ℕ) (o : Outcome A) (a : A) → need b n o ≡ found a
-    → (b ≡ true) × (o ≡ found a)
-unfolding need
-need-found true n o a e = (refl, e)
-need-found false n o a e = absurd (let z : _≡_ {A = ℕ} 0 1 = cc in omega arith)
 
 form-some : (l : List ℕ) → some (form l) ≡ true
 unfolding form formOf
@@ -55,7 +48,7 @@ module _ (room k : ℕ) (bitmap l : List ℕ) (es : List (List ℕ)) (judged : j
     put-is : es′ ≡ set es k (form l)
     put-is =
         ⊎-elim (λ h. absurd (let e = put-full h in let z : _≡_ {A = ℕ} 0 1 = cc in omega arith))
-        (λ h. found-is es′ (set es k (form l)) (sym done ∙ put-fits h)) (below-or room (total (set es k (form l))))
+        (λ h. same-found (sym done ∙ put-fits h)) (below-or room (total (set es k (form l))))
 
     -- "put stores the written form"
     pub put-fetch : (out : ℕ) → k < length es → fetchIn out k es′ ≡ placed (form l) out
@@ -71,7 +64,7 @@ module _ (room k : ℕ) (bitmap l : List ℕ) (es : List (List ℕ)) (judged : j
 module _ (k : ℕ) (es es′ : List (List ℕ)) (done : dropIn k es ≡ found es′) where
   drop-is : (some (getD es k []) ≡ true) × (es′ ≡ set es k [])
   unfolding dropIn
-  drop-is = let a = need-found (some (getD es k [])) 41 _ es′ done in (a .0, sym (found-is _ es′ (a .1)))
+  drop-is = let a = need-found (some (getD es k [])) 41 _ es′ done in (a .0, sym (same-found (a .1)))
 
   pub drop-fetch : (out : ℕ) → fetchIn out k es′ ≡ refused 41
   unfolding fetchIn need

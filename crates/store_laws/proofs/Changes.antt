@@ -1,11 +1,10 @@
 -- What a change of the directory and the buffer does to a sound store: a slot cleared, a form laid behind all others.
 -- Assumes nothing.
 use mathlib.Core.Path.{_≡_, refl, sym, ap, ap₂, _∙_}
-use mathlib.Core.Logic.{_⊎_, inl, inr, ⊎-elim}
+use mathlib.Core.Logic.{inl, inr, ⊎-elim}
 use mathlib.Core.Bool.{true, false}
 use mathlib.Core.List.{List, []}
 use Prim.Native.Nat.{ℕ, _+_, _*_, _≤_, _<_}
-use native.Mathlib.Nat.{eq-or-lt-of-le}
 use native.Mathlib.Omega.{arith}
 use lib.ListN.{length, getD, set, length-set}
 use lib.Seq.{getD-set-same, getD-set-other}
@@ -17,13 +16,8 @@ use Rattle.store_spec.specs.Store.{isForm, startAt, lengthAt, endAt, entryAt, s
 use Rattle.store_spec.specs.Store.{fetchIn, dropIn, doneOf, Left, Changes, emptied, Drops}
 use Rattle.store_spec.specs.declared.Stored.the-variants as storing
 use Rattle.bitmap_laws.proofs.Parts.{part-before, part-in}
-use Rattle.store_laws.proofs.Slots.{Lies, entries-bad, entries-is, entry-is, entry-long}
+use Rattle.store_laws.proofs.Slots.{same-or, Lies, entries-bad, entries-is, entry-is, entry-long}
 use Rattle.store_laws.proofs.Slots.{some-true, some-false, entries-set}
-
-pub same-or : (j k : ℕ) → (j ≡ k) ⊎ (j ≡ k → ⊥)
-same-or j k =
-    ⊎-elim (λ a. inr (λ q. omega arith))
-    (λ a. ⊎-elim (λ q. inl (sym q)) (λ q. inr (λ r. omega arith)) (eq-or-lt-of-le a)) (below-or j k)
 
 -- ---- one number of the directory changed
 module _ (dir : List ℕ) (k x : ℕ) where
@@ -72,9 +66,6 @@ end-is dir j = refl
 
 -- ---- a slot cleared
 module _ (n : ℕ) (dir buf : List ℕ) (k : ℕ) (s : Lies n dir buf) (len : length dir ≡ 2 * n) (h : k < n) where
-  clear-is : List ℕ
-  clear-is = set dir (2 * k + 1) 0
-
   zero-there : lengthAt (set dir (2 * k + 1) 0) k ≡ 0
   zero-there = length-new dir k 0 (omega arith)
 
@@ -165,9 +156,6 @@ change-refused o n dir buf m e = record { says = rw e; left = rw e (refl, refl) 
 module _ (n : ℕ) (dir buf : List ℕ) (k e m : ℕ) (w : List ℕ) (s : Lies n dir buf) (len : length dir ≡ 2 * n) (h : k < n)
     (ends : (j : ℕ) → j < n → 0 < lengthAt dir j → endAt dir j ≤ e) (size : m ≡ length w) (room : e + m ≤ length buf)
     (isF : isForm w ≡ true) (empty : lengthAt dir k ≡ 0) where
-  new : List ℕ
-  new = set (set dir (2 * k) e) (2 * k + 1) m
-
   new-start : startAt (set (set dir (2 * k) e) (2 * k + 1) m) k ≡ e
   new-start = start-kept (set dir (2 * k) e) k m k ∙ start-new dir k e (omega arith)
 

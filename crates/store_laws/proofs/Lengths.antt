@@ -1,12 +1,12 @@
 -- A length in groups of seven bits: what is written is read back, and what is read and shortest was written so.
 -- Assumes nothing.
 use mathlib.Core.Path.{_≡_, refl, sym, ap, _∙_}
-use mathlib.Core.Bool.{true}
+use mathlib.Core.Bool.{Bool, true}
 use mathlib.Core.List.{List, _++_}
 use Prim.Native.Nat.{ℕ, zero, suc, _+_, _-_, _^_, _≤_, _<_}
 use native.Mathlib.Omega.{arith}
 use borrow.Author.Tests.{eq-eqb}
-use lib.ListN.{length, take, drop, length-append, length-drop, take-append-drop}
+use lib.ListN.{length, take, drop, length-append, length-drop, length-take, take-append-drop}
 use lib.Seq.{drop-drop, drop-append-seam, take-append-seam}
 use Rattle.row_spec.specs.Varint.{varintAt, padded, groupsOf, shortest}
 use Rattle.row_spec.specs.declared.Varint.the-variants.{Number}
@@ -66,3 +66,13 @@ length-on s byte at n next e =
     ∙ ap (λ (l : List ℕ). l ++ drop (next - at) (drop at s)) (shortest-form s byte at n next e)
     ∙ ap (λ (l : List ℕ). shortest n ++ l)
     (drop-drop (next - at) at s ∙ ap (λ (k : ℕ). drop k s) (sym place))
+
+-- a number that is read ends within the bytes
+pub length-within : (s : List ℕ) → Bytes s → (at n next : ℕ) (short : Bool) → varintAt s at ≡ Number n next short
+    → next ≤ length s
+length-within s byte at n next short e =
+    let r = read-form s byte at n short next e in
+    let long = padded-long (next - at) n in
+    let taken = ap length (r .1 .bytes) in
+    let left = length-drop at s in
+    omega (arith, r .0, r .1 .some, long, taken, left, length-take (next - at) (drop at s))

@@ -15,7 +15,8 @@ use Rattle.row_spec.specs.Varint.{varintAt, shortest}
 use Rattle.row_spec.specs.declared.Varint.{Varint}
 use Rattle.row_spec.specs.declared.Varint.the-variants.{Number, CutShort, IllFormed}
 use Rattle.store_spec.specs.Store.{total}
-use Rattle.store_laws.proofs.Answers.{found-is, need-found}
+use Rattle.common.proofs.Outcomes.{same-found}
+use Rattle.bitmap_spec.proofs.Reading.{need-found}
 use Rattle.store_laws.proofs.Slots.{form-few}
 use Rattle.bitmap_laws.proofs.Parts.{part-length}
 use Rattle.store_spec.specs.Saved.{saved, isEntry, onShortest, Taken, entryFrom, Scan, scan, fitting, loadOn}
@@ -73,7 +74,7 @@ module _ (s : List ℕ) (byte : (i : ℕ) → getD s i 0 < 256) (at : ℕ) where
       go (Number n next true) v q =
           let a = need-found (leb (next + n) (length s)) 42 _ t q in
           let b = need-found (isEntry (take n (drop next s))) 42 _ t (a .1) in
-          let z : _≡_ {A = Taken} (record { entry = take n (drop next s); next = next + n }) t = found-is _ t (b .1) in
+          let z : _≡_ {A = Taken} (record { entry = take n (drop next s); next = next + n }) t = same-found (b .1) in
           rw z at (number n next v (a .0) (b .0))
 
 -- ---- all entries
@@ -182,6 +183,6 @@ module _ (dir : List ℕ) (room : ℕ) (s : List ℕ) (cs : List (List ℕ)) whe
       let r = then-found (scan s 0 [] 64) (fitting room s) cs (a .1) in
       let b = need-found (eqb (r .0 .next) (length s)) 42 _ cs (r .2) in
       let f = need-found (leb (total (r .0 .held)) room) 42 _ cs (b .1) in
-      let q : r .0 .held ≡ cs = found-is _ cs (f .1) in
+      let q : r .0 .held ≡ cs = same-found (f .1) in
       let g = read s (r .0) byte (r .1) (eqb-true _ _ (b .0)) in
       (eqb-true _ _ (a .0), rw q at g, rw q at (leb-true (total (r .0 .held)) room (f .0)))

@@ -18,8 +18,8 @@ use Rattle.bitmap_spec.proofs.Tally.{tally, tally-same}
 use Rattle.bitmap_laws.proofs.Output.{length-written}
 use Rattle.store_spec.specs.Store.{isForm, startAt, lengthAt, endAt, entryAt}
 use Rattle.bitmap_laws.proofs.Parts.{part-length, part-before, part-after, part-in}
-use Rattle.store_laws.proofs.Slots.{Lies}
-use Rattle.store_laws.proofs.Changes.{same-or, start-other, start-new, length-same, end-is, entry-none}
+use Rattle.store_laws.proofs.Slots.{same-or, Lies}
+use Rattle.store_laws.proofs.Changes.{start-other, start-new, length-same, end-is, entry-none}
 
 -- ---- one number of a sum changed
 tally-past : (f g : ℕ → ℕ) (n : ℕ) → ((j : ℕ) → j < n → g j ≡ f j) → tally g 0 n ≡ tally f 0 n

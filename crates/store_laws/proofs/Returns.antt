@@ -13,7 +13,8 @@ use Rattle.bitmap_spec.specs.Output.{placed}
 use Rattle.bitmap_spec.proofs.Window.{below-or}
 use Rattle.bitmap_laws.proofs.Accept.{then-found}
 use Rattle.store_spec.specs.Store.{lengthAt, entryAt, sound, entriesOf, entries, total}
-use Rattle.store_laws.proofs.Answers.{found-is, need-found}
+use Rattle.common.proofs.Outcomes.{same-found}
+use Rattle.bitmap_spec.proofs.Reading.{need-found}
 use Rattle.store_laws.proofs.Slots.{Lies, sound-lies, many-entries, entry-is}
 use Rattle.store_laws.proofs.Changes.{entry-none}
 use Rattle.store_laws.proofs.Rooms.{entries-fit}
@@ -46,14 +47,14 @@ unfolding entries
 entries-holds n dir buf es e =
     let a = need-found (eqb (length dir) (2 * n)) 42 _ es e in
     let b = need-found (sound n dir buf) 42 _ es (a .1) in
-    let q : entriesOf n dir buf ≡ es = found-is _ es (b .1) in
+    let q : entriesOf n dir buf ≡ es = same-found (b .1) in
     rw q at (lies-holds n dir buf (sound-lies n dir buf (b .0)))
 
 placed-is : (w v : List ℕ) (out : ℕ) → placed w out ≡ found v → w ≡ v
 unfolding placed
-placed-is w v out e = found-is w v (need-found (leb (length w) out) 13 _ v e .1)
+placed-is w v out e = same-found (need-found (leb (length w) out) 13 _ v e .1)
 
--- ---- load of what save wrote, into any store that is as long
+-- ---- load of what save wrote, into any store that is as long or longer
 pub save-load : (out : ℕ) (dir buf w dir′ : List ℕ) (room : ℕ) → saveOn out dir buf ≡ found w → length dir′ ≡ 128
     → length buf ≤ room
     → loadOn dir′ room w ≡ entries 64 dir buf

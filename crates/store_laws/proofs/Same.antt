@@ -1,6 +1,6 @@
 -- Whether two lists are the same, as a test.
 -- Assumes nothing.
-use mathlib.Core.Path.{_≡_, refl, sym}
+use mathlib.Core.Path.{_≡_, refl}
 use mathlib.Core.Bool.{Bool, true, false}
 use mathlib.Core.List.{List, [], _∷_}
 use Prim.Native.Nat.{ℕ}
@@ -31,13 +31,3 @@ same-not a b h = go (same a b) refl
     go : (t : Bool) → same a b ≡ t → t ≡ false
     go true e = absurd (h (same-true a b e))
     go false e = refl
-
--- one test for another
-pub same-iff : (a b c d : List ℕ) → (a ≡ b → c ≡ d) → (c ≡ d → a ≡ b) → same a b ≡ same c d
-same-iff a b c d f g = go (same a b) refl
-  where
-    go : (t : Bool) → same a b ≡ t → t ≡ same c d
-    go true e = let q : c ≡ d = f (same-true a b e) in rw q (sym (same-refl d))
-    go false e = sym (same-not c d
-        (λ q. let p : a ≡ b = g q in let z : same a b ≡ true = rw p (same-refl b)
-        in let y : _≡_ {A = ℕ} 0 1 = cc in omega arith))

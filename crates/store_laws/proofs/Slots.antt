@@ -14,19 +14,24 @@ use lib.Seq.{ext-getD, getD-set-same, getD-set-other}
 use lib.Dec.{leb}
 use Rattle.common.specs.Outcome.{both, either, Outcome, refused, found, need}
 use Rattle.common.specs.Lists.{from, every}
-use Rattle.common.proofs.Lists.{both-left, both-right, every-all}
+use Rattle.common.proofs.Lists.{both-left, both-right, every-all, every-each}
 use Rattle.bitmap_spec.specs.Judge.{judge}
 use Rattle.bitmap_spec.specs.Form.{form}
 use Rattle.bitmap_spec.proofs.Window.{below-or}
-use Rattle.bitmap_spec.proofs.Tally.{tally}
+use Rattle.bitmap_spec.proofs.Tally.{tally, tally-cons}
 use Rattle.bitmap_laws.proofs.Accept.{judge-set}
 use Rattle.bitmap_laws.proofs.Cuts.{length-from}
 use Rattle.bitmap_laws.proofs.Length.{form-bound}
-use Rattle.bitmap_laws.proofs.Values.{every-at}
 use Rattle.store_spec.specs.Store.{formIs, isForm, startAt, lengthAt, endAt, entryAt, slotOk, apart, sound}
 use Rattle.store_spec.specs.Store.{entriesOf, entries, total, some}
 use Rattle.store_laws.proofs.Same.{same-true, same-refl}
 use Rattle.bitmap_laws.proofs.Parts.{part-length}
+
+-- ---- two slots are one, or not
+pub same-or : (j k : ℕ) → (j ≡ k) ⊎ (j ≡ k → ⊥)
+same-or j k =
+    ⊎-elim (λ a. inr (λ q. omega arith))
+    (λ a. ⊎-elim (λ q. inl (sym q)) (λ q. inr (λ r. omega arith)) (eq-or-lt-of-le a)) (below-or j k)
 
 -- ---- forms
 no : {A : Type 0} (b : Bool) → b ≡ true → b ≡ false → A
@@ -98,23 +103,20 @@ apart-make dir k j h =
     last true = refl
     last false = refl
 
-at : (f : ℕ → Bool) (n i : ℕ) → every f (from 0 n) ≡ true → i < n → f i ≡ true
-at f n i e h = rw (zero-add i) at (every-at f 0 n i e h)
-
 pub sound-lies : (n : ℕ) (dir buf : List ℕ) → sound n dir buf ≡ true → Lies n dir buf
 unfolding sound
 sound-lies n dir buf e =
     let s = both-left (every (slotOk dir buf) (from 0 n)) _ e in
     let t = both-right (every (slotOk dir buf) (from 0 n)) _ e in
     record {
-      inside = λ k h l. slot-in dir buf k (at (slotOk dir buf) n k s h) l .0;
-      forms = λ k h l. slot-in dir buf k (at (slotOk dir buf) n k s h) l .1;
+      inside = λ k h l. slot-in dir buf k (every-each (slotOk dir buf) n k s h) l .0;
+      forms = λ k h l. slot-in dir buf k (every-each (slotOk dir buf) n k s h) l .1;
       clear = λ k j h g d lk lj. ⊎-elim
           (λ a.
           ⊎-elim inr inl
-          (apart-in dir j k (at (apart dir j) j k (at (λ k. every (apart dir k) (from 0 k)) n j t g) a) lj lk))
+          (apart-in dir j k (every-each (apart dir j) j k (every-each (λ k. every (apart dir k) (from 0 k)) n j t g) a) lj lk))
           (λ a. apart-in dir k j
-          (at (apart dir k) k j (at (λ k. every (apart dir k) (from 0 k)) n k t h) (less k j d a)) lk lj)
+          (every-each (apart dir k) k j (every-each (λ k. every (apart dir k) (from 0 k)) n k t h) (less k j d a)) lk lj)
           (below-or k j);
     }
   where
@@ -187,11 +189,6 @@ entries-set n dir buf dir′ buf′ k w h other own =
     (λ j l. let m : j < n = rw (many-entries n dir′ buf′) at l in
     entry-is n dir′ buf′ j m ∙ go j m (same-or j k))
   where
-    same-or : (j k : ℕ) → (j ≡ k) ⊎ (j ≡ k → ⊥)
-    same-or j k =
-        ⊎-elim (λ a. inr (λ q. omega arith))
-        (λ a. ⊎-elim (λ q. inl (sym q)) (λ q. inr (λ r. omega arith)) (eq-or-lt-of-le a)) (below-or j k)
-
     go : (j : ℕ) → j < n → (j ≡ k) ⊎ (j ≡ k → ⊥) → entryAt dir′ buf′ j ≡ getD (set (entriesOf n dir buf) k w) j []
     go j m (inl q) = rw q (own ∙ sym (getD-set-same (entriesOf n dir buf) k w [] (rw (many-entries n dir buf) h)))
     go j m (inr q) = other j m q ∙ sym (getD-set-other (entriesOf n dir buf) k j w [] q ∙ entry-is n dir buf j m)
@@ -204,11 +201,6 @@ total-set [] k w h = absurd (not-suc-le-zero h)
 total-set (e ∷ es) zero w h = omega arith
 total-set (e ∷ es) (suc k) w h = omega (arith, total-set es k w (le-of-suc-le-suc h))
 
-tally-first : (f : ℕ → ℕ) (k n : ℕ) → tally f k (suc n) ≡ f k + tally f (suc k) n
-unfolding tally
-tally-first f k zero = rw (add-zero k) (omega arith)
-tally-first f k (suc n) = rw (tally-first f k n, suc-add k n, add-suc k n) (omega arith)
-
 total-map : (f : ℕ → List ℕ) (g : ℕ → ℕ) (k n : ℕ) → ((i : ℕ) → i < n → length (f (k + i)) ≡ g (k + i))
     → total (map f (from k n)) ≡ tally g k n
 unfolding total from tally
@@ -219,7 +211,7 @@ total-map f g k (suc n) h =
       arith,
       a,
       total-map f g (suc k) n (λ i l. rw (suc-add k i, ← add-suc k i) (h (suc i) (omega arith))),
-      tally-first g k n,
+      tally-cons g k n,
     )
 
 pub total-is : (n : ℕ) (dir buf : List ℕ) → Lies n dir buf → total (entriesOf n dir buf) ≡ tally (lengthAt dir) 0 n

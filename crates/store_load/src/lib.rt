@@ -33,9 +33,6 @@ fn entry_at(s: &[u8], at: usize) -> Took
             if !short {
                 return Took::Bad;
             }
-            if s.len() < next {
-                return Took::Bad;
-            }
             let m = n as usize;
             if s.len() - next < m {
                 return Took::Bad;

@@ -12,7 +12,7 @@ use lib.ListN.{length, set, take, drop, length-append}
 use Rattle.common.specs.Outcome.{refused}
 use Rattle.common.specs.Lists.{from}
 use Rattle.bitmap_spec.specs.Output.{written, placed}
-use Rattle.bitmap_spec.proofs.Tally.{tally}
+use Rattle.bitmap_spec.proofs.Tally.{tally, tally-cons}
 use Rattle.bitmap_spec.proofs.Window.{below-or}
 use Rattle.bitmap_laws.proofs.Cuts.{from-cons, from-none}
 use Rattle.bitmap_laws.proofs.Output.{written-none, written-more, written-cat, Along}
@@ -54,11 +54,6 @@ pub size-is : (dir : List ℕ) (k x m : ℕ) → m ≡ lengthAt dir k → x ≡ 
 unfolding entrySize
 size-is dir k x m e q = rw (q, e)
 
-tally-first : (f : ℕ → ℕ) (k n : ℕ) → tally f k (suc n) ≡ f k + tally f (suc k) n
-unfolding tally
-tally-first f k zero = rw (add-zero k) (omega arith)
-tally-first f k (suc n) = rw (tally-first f k n, suc-add k n, add-suc k n) (omega arith)
-
 saved-map : (f : ℕ → List ℕ) (g : ℕ → ℕ) (k n : ℕ)
     → ((i : ℕ) → i < n → length (shortest (length (f (k + i)))) + length (f (k + i)) ≡ g (k + i))
     → length (saved (map f (from k n))) ≡ tally g k n
@@ -69,7 +64,7 @@ saved-map f g k (suc n) h =
     let b = saved-map f g (suc k) n (λ i l. rw (suc-add k i, ← add-suc k i) (h (suc i) (omega arith))) in
     let p = length-append (shortest (length (f k))) (f k ++ saved (map f (from (suc k) n))) in
     let q = length-append (f k) (saved (map f (from (suc k) n))) in
-    omega (arith, a, b, p, q, tally-first g k n)
+    omega (arith, a, b, p, q, tally-cons g k n)
 
 pub saved-size : (n : ℕ) (dir buf : List ℕ) → Lies n dir buf
     → length (saved (entriesOf n dir buf)) ≡ tally (entrySize dir) 0 n

@@ -5,7 +5,7 @@ use mathlib.Core.Logic.{⊎-elim}
 use mathlib.Core.Bool.{true}
 use mathlib.Core.List.{List, [], _++_, append-assoc}
 use Prim.Native.Nat.{ℕ, zero, suc, _+_, _-_, _*_, _≤_, _<_}
-use native.Mathlib.Nat.{zero-add, suc-mul}
+use native.Mathlib.Nat.{suc-mul}
 use native.Mathlib.Omega.{arith}
 use borrow.Author.Tests.{le-leb, lt-leb}
 use lib.ListN.{length, getD, set, take, drop, take-append-drop}
@@ -56,10 +56,6 @@ used-few n dir buf s h =
     omega arith
 
 -- ---- laid behind all others
-pub tail-written : (b w t : List ℕ) (e : ℕ) → t ≡ written (drop e b) 0 w → take e b ++ t ≡ written b e w
-unfolding written
-tail-written b w t e q = rw (q, zero-add (length w), drop-drop (length w) e b)
-
 module _ (n : ℕ) (dir buf dir₁ buf₁ : List ℕ) (k e m : ℕ) (w : List ℕ) (p : Packed n dir buf dir₁ buf₁ e)
     (len : length dir ≡ 2 * n) (h : k < n) (empty : lengthAt dir k ≡ 0) (size : m ≡ length w) (isF : isForm w ≡ true)
     (room : tally (lengthAt dir) 0 n + m ≤ length buf) where

@@ -1,4 +1,4 @@
-// A store of bitmaps (02: a shelf of zone masks): the type that its definitions and its code share. The definitions are in specs/.
+// A store of bitmaps: the type that its definitions and its code share. The definitions are in specs/.
 // Inner: no entry point.
 
 // The answer of a call that changes a store: the refusal's number, or that it is done.

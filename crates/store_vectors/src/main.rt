@@ -1,4 +1,5 @@
-// Runs the calls on a store over the lines of standard input and prints each answer. The first line is `new`, and each other a step on the store of the lines before it:
+// Runs the calls on a store over the lines of standard input and prints each answer. The first line is `new`, and each
+// other a step on the store of the lines before it:
 //
 //   new LEN NUMBERS        a fresh store: a buffer of up to 1,024 bytes, all EE, and a directory of up to 130 zeros
 //   at I VALUE             number I of the directory becomes VALUE
@@ -6,8 +7,8 @@
 //   put SLOT HEX           fetch ROOM SLOT        drop SLOT        save ROOM        load HEX
 //   view SLOT              its two numbers
 //
-// Of fetch and save the whole output is printed, where EE was left as it was. The file stdout was made by a script from 02 and a table of
-// the bitmaps in these lines.
+// Of fetch and save the whole output is printed, where ee was left as it was. The file stdout was made by a script from 02
+// and a table of the bitmaps in these lines.
 ghost use Prim.Native.Nat.{_+_, _≤_, _<_};
 ghost use lib.ListN.{length};
 use bitmap_spec::Written;

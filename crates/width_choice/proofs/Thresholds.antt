@@ -21,6 +21,7 @@ use Rattle.bitmap_spec.proofs.Window.{below-or, shifted-one}
 use Rattle.bitmap_spec.specs.Form.{smallest, least, largest, width, wider, cost}
 use Rattle.bitmap_laws.proofs.Except.{narrow}
 use Rattle.bitmap_laws.proofs.Length.{cost-widest}
+use Rattle.bitmap_laws.proofs.Values.{smallest-le}
 use Rattle.width_choice.proofs.Steps.{over-on, over-off}
 use Rattle.width_choice.specs.Over.{over}
 
@@ -86,11 +87,6 @@ widest-is m (d ∷ ds) = rw (← widest-is m ds) (⊎-elim later first (below-or
         rw e (omega (arith, width-rises (largest ds - m) (d - m) (omega arith)))
 
 -- the least is at most the largest
-smallest-le : (m : ℕ) (xs : List ℕ) → smallest m xs ≤ m
-unfolding smallest
-smallest-le m [] = omega arith
-smallest-le m (x ∷ xs) = omega (arith, smallest-le (min m x) xs)
-
 pub least-largest : (ds : List ℕ) → least ds ≤ largest ds
 unfolding least largest
 least-largest [] = omega arith

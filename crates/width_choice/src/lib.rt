@@ -63,7 +63,7 @@ pub fn largest_of(ws: &[u8]) -> u8
     m
 }
 
-// How many of ds are over t, counted in a byte and with no branch: of that the back end compares sixteen at a time.
+// How many of ds are over t, counted in a byte and with no branch, so that the back end compares sixteen at a time.
 fn count_over(ds: &[u8], t: u8) -> usize
     requires { ⌜ length (over t (now ds)) ≤ 255 ⌝ }
     ensures { λ r. ⌜ r ≡ length (over t (now (ds .entry))) ⌝ }

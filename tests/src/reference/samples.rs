@@ -30,7 +30,7 @@ fn bitmaps() {
 
 /// Saved from a store that the samples were put into; it loads into a buffer of 158 bytes.
 #[test]
-fn shelf() {
+fn saved_store() {
     let held = [(0, "zone.bitmap"), (7, "dense.bitmap"), (63, "last.bitmap")];
     let (mut buffer, mut directory) = ([0; 158], [0; 128]);
     for (slot, name) in held {
@@ -38,7 +38,7 @@ fn shelf() {
     }
     let mut saved = [0; 222];
     assert_eq!(store::save(&buffer, &directory, &mut saved), Ok(222));
-    assert_eq!(sample("shelf.saved"), saved);
+    assert_eq!(sample("store.saved"), saved);
     let (mut buffer, mut directory) = ([0; 158], [0; 128]);
     assert_eq!(store::load(&mut buffer, &mut directory, &saved), Ok(()));
     for slot in 0..64 {
