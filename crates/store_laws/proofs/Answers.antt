@@ -17,7 +17,7 @@ use Rattle.bitmap_spec.specs.Output.{placed}
 use Rattle.common.proofs.Outcomes.{same-found}
 use Rattle.bitmap_spec.proofs.Reading.{need-found}
 use Rattle.bitmap_spec.proofs.Window.{below-or}
-use Rattle.store_spec.specs.Store.{some, total, putIn, fetchIn, dropIn}
+use Rattle.store_spec.specs.Store.{some, total, roomFor, putIn, fetchIn, dropIn}
 
 form-some : (l : List ℕ) → some (form l) ≡ true
 unfolding form formOf
@@ -27,11 +27,11 @@ form-some l = refl
 module _ (room k : ℕ) (bitmap l : List ℕ) (es : List (List ℕ)) (judged : judge bitmap ≡ found l) where
   -- "refused for room exactly if the forms in the other slots plus the new one are longer than the buffer"
   pub put-full : room < total (set es k (form l)) → putIn room k bitmap es ≡ refused 13
-  unfolding putIn need
+  unfolding putIn roomFor need
   put-full h = rw (judged, lt-leb _ _ h)
 
   pub put-fits : total (set es k (form l)) ≤ room → putIn room k bitmap es ≡ found (set es k (form l))
-  unfolding putIn need
+  unfolding putIn roomFor need
   put-fits h = rw (judged, le-leb _ _ h)
 
   -- the same in one statement: past the bitmap's own refusals the answer is 13 exactly if the sum is over the room

@@ -9,7 +9,7 @@ use Rattle.bitmap_laws.proofs.Status.{judge-numbered, placed-numbered}
 use Rattle.row_spec.specs.Varint.{varintAt}
 use Rattle.row_spec.specs.declared.Varint.{Varint}
 use Rattle.row_spec.specs.declared.Varint.the-variants.{Number, CutShort, IllFormed}
-use Rattle.store_spec.specs.Store.{entries, putIn, fetchIn, dropIn, putOn, fetchOn, dropOn}
+use Rattle.store_spec.specs.Store.{entries, roomFor, putIn, fetchIn, dropIn, putOn, fetchOn, dropOn}
 use Rattle.store_spec.specs.Saved.{onShortest, entryFrom, scan, fitting, saveOn, loadOn}
 use Rattle.store_laws.proofs.Scans.{made}
 
@@ -18,7 +18,7 @@ unfolding entries
 entries-numbered n dir buf = need-numbered _ _ _ (need-numbered _ _ _ (found-numbered _))
 
 pub put-numbered : (k : ℕ) (bitmap dir buf : List ℕ) → Numbered (putOn k bitmap dir buf)
-unfolding putOn putIn
+unfolding putOn putIn roomFor
 put-numbered k bitmap dir buf =
     need-numbered _ _ _ (then-numbered _ _ (entries-numbered 64 dir buf) (λ es.
     then-numbered _ _ (judge-numbered bitmap) (λ l. need-numbered _ _ _ (found-numbered _))))

@@ -20,7 +20,7 @@ use Rattle.bitmap_laws.proofs.Accept.{judge-set}
 use Rattle.bitmap_laws.proofs.Output.{from-start}
 use Rattle.bitmap_laws.proofs.Round.{round}
 use Rattle.bitmap_laws.proofs.Parts.{part-length}
-use Rattle.store_spec.specs.Store.{isForm, lengthAt, entryAt, entriesOf, entries, total, putIn}
+use Rattle.store_spec.specs.Store.{isForm, lengthAt, entryAt, entriesOf, entries, total, roomFor, putIn}
 use Rattle.store_spec.specs.Store.{doneOf, Left, Changes}
 use Rattle.store_spec.specs.declared.Stored.{Stored}
 use Rattle.store_spec.specs.declared.Stored.the-variants as storing
@@ -97,12 +97,12 @@ module _ (n : ℕ) (dir buf : List ℕ) (k : ℕ) (w : List ℕ) (s : Lies n dir
     own-few = omega (arith, emptied)
 
     full : length buf < total (set (entriesOf n dir buf) k w) → stored n dir buf k w ≡ refused 13
-    unfolding stored need
+    unfolding stored roomFor need
     full l = rw (lt-leb _ _ l)
 
     fits : total (set (entriesOf n dir buf) k w) ≤ length buf
         → stored n dir buf k w ≡ found (set (entriesOf n dir buf) k w)
-    unfolding stored need
+    unfolding stored roomFor need
     fits l = rw (le-leb _ _ l)
 
     done : total (set (entriesOf n dir buf) k w) ≤ length buf → (dir′ buf′ : List ℕ) → length dir′ ≡ length dir

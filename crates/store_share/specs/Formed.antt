@@ -4,11 +4,10 @@ use mathlib.Core.Path.{_≡_}
 use mathlib.Core.Bool.{true}
 use mathlib.Core.List.{List}
 use lib.ListN.{length, set}
-use lib.Dec.{leb}
-use Rattle.common.specs.Outcome.{Outcome, found, need}
+use Rattle.common.specs.Outcome.{Outcome}
 use Rattle.bitmap_laws.proofs.Values.{AllLe}
 use Rattle.bitmap_rewrite.specs.Settled.{laid}
-use Rattle.store_spec.specs.Store.{isForm, entriesOf, total}
+use Rattle.store_spec.specs.Store.{isForm, entriesOf, roomFor}
 
 -- the descriptors ds and the bytes of bitmap from start on make a written form of that size
 pub record Formed (bitmap : List ℕ) (start : ℕ) (ds : List ℕ) (card size : ℕ) : Type 0 where
@@ -20,5 +19,4 @@ pub record Formed (bitmap : List ℕ) (start : ℕ) (ds : List ℕ) (card size :
 
 -- the form w put into slot k of a sound share
 unfoldable pub stored : ℕ → List ℕ → List ℕ → ℕ → List ℕ → Outcome (List (List ℕ))
-stored n dir buf k w =
-    need (leb (total (set (entriesOf n dir buf) k w)) (length buf)) 13 (found (set (entriesOf n dir buf) k w))
+stored n dir buf k w = roomFor (length buf) (set (entriesOf n dir buf) k w)

@@ -86,11 +86,14 @@ abbrev pub some : List ℕ → Bool
 some [] = false
 some (x ∷ xs) = true
 
--- "put stores the written form and replaces what the slot held"; "refused for room exactly if the forms in the other
--- slots plus the new one are longer than the buffer"; "last 13, in put after the mask's own"
+-- entries that a put would leave: "refused for room exactly if the forms in the other slots plus the new one are longer
+-- than the buffer"
+unfoldable pub roomFor : ℕ → List (List ℕ) → Outcome (List (List ℕ))
+roomFor room es = need (leb (total es) room) 13 (found es)
+
+-- "put stores the written form and replaces what the slot held"; "last 13, in put after the mask's own"
 unfoldable pub putIn : ℕ → ℕ → List ℕ → List (List ℕ) → Outcome (List (List ℕ))
-putIn room k bitmap es =
-    then (judge bitmap) (λ l. need (leb (total (set es k (form l))) room) 13 (found (set es k (form l))))
+putIn room k bitmap es = then (judge bitmap) (λ l. roomFor room (set es k (form l)))
 
 -- "41 fetch or drop of an empty slot; last 13"; out is the output's length
 unfoldable pub fetchIn : ℕ → ℕ → List (List ℕ) → Outcome (List ℕ)
