@@ -24,8 +24,9 @@
  *   13  written form longer than its room        36  bytes left over
  *                                                37  bucket too long or over 65,536 rows
  *
- *   40  store: slot number over 63               42  store: its own bytes are not forms lying apart,
+ *   40  store: slot number over 63               42  store: the bytes judged are not forms lying apart,
  *   41  store: fetch or drop of an empty slot        or a saved store that is bad or does not fit
+ *   44  store: a slot that is not the owner's
  */
 #ifndef BARCOVENTO_H
 #define BARCOVENTO_H
@@ -104,52 +105,62 @@ uint32_t bv_bitmap_symmetric_difference(const uint8_t *a, size_t a_len, const ui
 /*
  * A store: up to 64 numbered bitmaps, each as its one written form, in a lent buffer of any length.
  *
- * A lent directory says where they lie: for slot i, directory[2 * i] is where its form starts in the
- * buffer and directory[2 * i + 1] its length. A length of 0 is an empty slot, whatever its start says.
- * A directory has BV_STORE_DIRECTORY numbers; all zeros is the empty store. The buffer's bytes outside
- * the forms mean nothing.
+ * Two owners share it. Owner 0 has slots 0 to 31 and the buffer's first half, owner 1 slots 32 to 63
+ * and the second half; half is len / 2, rounded down. Where len is odd, the last byte is nobody's and no
+ * call changes it. An owner of another number has no slot.
  *
- * Put, fetch, drop and save judge the whole store first. 42: `numbers` is not BV_STORE_DIRECTORY, or a
- * slot that is not empty does not lie within the buffer, is not accepted, is accepted but is not the
- * written form of its set, or overlaps another.
+ * A lent directory says where forms lie: for slot i, directory[2 * i] is where its form starts, counted
+ * from the first byte of its owner's half, and directory[2 * i + 1] its length. A length of 0 is an
+ * empty slot, whatever its start says. A directory has BV_STORE_DIRECTORY numbers; all zeros is the
+ * empty store. The buffer's bytes outside the forms mean nothing.
+ * A directory of a store without owners, whose starts count from the buffer's first byte for all 64
+ * slots, must not be handed on: it is not recognised. Save such a store with the library that wrote it,
+ * and load the saved bytes, which fit if the first 32 forms and the last 32 each fit a half.
+ *
+ * Put, fetch and drop judge the owner's slots and half first, save those of both. 42: `numbers` is not
+ * BV_STORE_DIRECTORY, or a judged slot that is not empty does not lie within its half, is not accepted,
+ * is accepted but is not the written form of its set, or overlaps another of its owner's.
+ * What the other owner's numbers and half hold changes no answer of put, fetch and drop, and these
+ * calls leave them as they are, byte for byte.
  *
  * Put and load may move forms: after them the slots hold what is said below, and where forms lie, the
- * starts of empty slots and all bytes of the buffer outside forms are free. A refused call leaves
- * buffer, directory and output as they were. Nothing else that is handed in overlaps buffer or
- * directory.
+ * starts of empty slots and all bytes of a half outside forms are free: of the owner's half after put,
+ * of both after load. A refused call leaves buffer, directory and output as they were. Nothing else
+ * that is handed in overlaps buffer or directory.
  */
 enum {
     BV_STORE_DIRECTORY = 128
 };
 
 /*
- * The slot holds the bitmap's written form, in place of what it held; the other slots hold what they
- * held. Refusals 40, 42, the bitmap's 1 to 11, then 13: exactly if the forms in the other slots and
- * the new one are together longer than the buffer.
+ * The slot holds the bitmap's written form, in place of what it held; the owner's other slots hold what
+ * they held. Refusals 40, 44, 42, the bitmap's 1 to 11, then 13: exactly if the forms in the owner's
+ * other slots and the new one are together longer than its half.
  */
 uint32_t bv_store_put(uint8_t *buffer, size_t len, uint32_t *directory, size_t numbers,
-                      uint32_t slot, const uint8_t *bitmap, size_t bitmap_len);
+                      uint32_t owner, uint32_t slot, const uint8_t *bitmap, size_t bitmap_len);
 
-/* The slot's form into out: *length is its length, the rest of out is unchanged. Refusals 40, 42, 41, 13. */
+/* The slot's form into out: *length is its length, the rest of out is unchanged. Refusals 40, 44, 42, 41, 13. */
 uint32_t bv_store_fetch(const uint8_t *buffer, size_t len, const uint32_t *directory, size_t numbers,
-                        uint32_t slot, uint8_t *out, size_t room, size_t *length);
+                        uint32_t owner, uint32_t slot, uint8_t *out, size_t room, size_t *length);
 
-/* The slot is empty: its length becomes 0, all else stays. Refusals 40, 42, 41. */
+/* The slot is empty: its length becomes 0, all else stays. Refusals 40, 44, 42, 41. */
 uint32_t bv_store_drop(const uint8_t *buffer, size_t len, uint32_t *directory, size_t numbers,
-                       uint32_t slot);
+                       uint32_t owner, uint32_t slot);
 
 /*
- * The whole store as bytes: 64 entries in the order of the slots, each a length in groups of seven
- * bits, shortest, and then the form's bytes; 00 for an empty slot. *length is their length, the rest
- * of out is unchanged. Refusals 42, 13: they are longer than out.
+ * The whole store, both owners' slots, as bytes: 64 entries in the order of the slots, each a length in
+ * groups of seven bits, shortest, and then the form's bytes; 00 for an empty slot. *length is their
+ * length, the rest of out is unchanged. Refusals 42, 13: they are longer than out.
  */
 uint32_t bv_store_save(const uint8_t *buffer, size_t len, const uint32_t *directory, size_t numbers,
                        uint8_t *out, size_t room, size_t *length);
 
 /*
- * Each slot holds its entry of the saved bytes. What the store held before is not judged. Refusal 42:
- * `numbers` is not BV_STORE_DIRECTORY; the bytes are not exactly 64 such entries, of written forms
- * alone, with nothing behind; or the forms are together longer than the buffer.
+ * Each of the 64 slots holds its entry of the saved bytes. What the store held before is not judged.
+ * Refusal 42: `numbers` is not BV_STORE_DIRECTORY; the bytes are not exactly 64 such entries, of written
+ * forms alone, with nothing behind; or the first 32 forms, or the last 32, are together longer than a
+ * half.
  */
 uint32_t bv_store_load(uint8_t *buffer, size_t len, uint32_t *directory, size_t numbers,
                        const uint8_t *saved, size_t saved_len);

@@ -131,7 +131,10 @@ impl<C: Copy> Sides<C> {
     }
 
     /// Without the earlier library unless it does what is measured.
-    #[cfg_attr(not(any(feature = "rows", feature = "buckets")), allow(dead_code))]
+    #[cfg_attr(
+        not(any(feature = "store", feature = "rows", feature = "buckets")),
+        allow(dead_code)
+    )]
     fn if_earlier(self, does: impl FnOnce(C) -> bool) -> Sides<C> {
         Sides { before: self.before.filter(|&before| does(before)), ..self }
     }

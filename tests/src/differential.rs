@@ -92,10 +92,18 @@ pub fn groups() -> Vec<Group> {
         #[cfg(feature = "store")]
         Group {
             name: "store",
-            refusals: &STORE_OUTCOMES,
+            refusals: &store::OUTCOMES,
             times: 30,
             default_cases: 20_000,
             run_case: store::run_case,
+        },
+        #[cfg(feature = "store")]
+        Group {
+            name: "replay",
+            refusals: &store::replay::OUTCOMES,
+            times: 30,
+            default_cases: 10_000,
+            run_case: store::replay::run_case,
         },
         #[cfg(feature = "numbers")]
         Group {
@@ -124,13 +132,6 @@ pub fn groups() -> Vec<Group> {
         },
     ]
 }
-
-/// Put, then from 100 on fetch, from 200 on drop, from 300 on save, from 400 on load.
-#[cfg(feature = "store")]
-const STORE_OUTCOMES: [u32; 28] = [
-    1, 2, 3, 4, 5, 6, 7, 8, 9, 10, 11, 13, 40, 42, 100, 113, 140, 141, 142, 200, 240, 241, 242,
-    300, 313, 342, 400, 442,
-];
 
 /// The cases from here on are the edges of a group, as many as it has.
 const FIRST_EDGE: u64 = 1000;

@@ -2,6 +2,7 @@
 //! did to the caller's memory.
 
 use crate::generate::Random;
+use std::ops::Range;
 use std::ptr::NonNull;
 
 /// What a call answered: its outputs or its refusal. The outer error tells of harmed memory.
@@ -51,12 +52,10 @@ impl<T: Cell> Lent<T> {
     }
 
     pub fn input(name: &'static str, content: &[T], random: &mut Random) -> Self {
-        let mut lent = Lent::output(name, 0, random);
-        lent.length = content.len();
-        let start = lent.start;
-        lent.cells.splice(start..start, content.iter().copied());
-        lent.before = lent.cells.clone();
-        lent
+        let lent = Lent::output(name, 0, random);
+        let (before, behind) = lent.cells.split_at(lent.start);
+        let cells = [before, content, behind].concat();
+        Lent { length: content.len(), before: cells.clone(), cells, ..lent }
     }
 
     /// One number that a call may read and set.
@@ -89,13 +88,18 @@ impl<T: Cell> Lent<T> {
 
 /// Lent memory that can be looked at after a call.
 trait Memory {
+    /// An error unless every cell but these of the lent slice is as before.
+    fn unharmed_but(&self, free: Range<usize>) -> Result<(), String>;
+
     /// An error unless every cell but the first `free` of the lent slice is as before.
-    fn unharmed(&self, free: usize) -> Result<(), String>;
+    fn unharmed(&self, free: usize) -> Result<(), String> {
+        self.unharmed_but(0..free)
+    }
 }
 
 impl<T: Cell> Memory for Lent<T> {
-    fn unharmed(&self, free: usize) -> Result<(), String> {
-        let free = self.start..self.start + free;
+    fn unharmed_but(&self, free: Range<usize>) -> Result<(), String> {
+        let free = self.start + free.start..self.start + free.end;
         if self.cells[..free.start] == self.before[..free.start]
             && self.cells[free.end..] == self.before[free.end..]
         {
@@ -378,7 +382,7 @@ pub mod combine {
 #[cfg(feature = "store")]
 pub mod store {
     use super::*;
-    use crate::generate::store::Store;
+    use crate::generate::store::{own_half, Store, OWN_NUMBERS};
 
     mod calls {
         extern "C" {
@@ -387,6 +391,7 @@ pub mod store {
                 len: usize,
                 directory: *mut u32,
                 numbers: usize,
+                owner: u32,
                 slot: u32,
                 bitmap: *const u8,
                 bitmap_len: usize,
@@ -396,6 +401,7 @@ pub mod store {
                 len: usize,
                 directory: *const u32,
                 numbers: usize,
+                owner: u32,
                 slot: u32,
                 out: *mut u8,
                 room: usize,
@@ -406,6 +412,7 @@ pub mod store {
                 len: usize,
                 directory: *mut u32,
                 numbers: usize,
+                owner: u32,
                 slot: u32,
             ) -> u32;
             pub fn bv_store_save(
@@ -441,19 +448,36 @@ pub mod store {
             LentStore { buffer, directory: Lent::input("directory", &store.directory, random) }
         }
 
-        /// What a call left that may change the whole store.
-        fn settle(&self, code: u32, inputs: &[&dyn Memory]) -> Called<Store> {
+        /// What a call left that may change these bytes and these numbers of the store.
+        fn settle(
+            &self,
+            code: u32,
+            input: &dyn Memory,
+            bytes: Range<usize>,
+            numbers: Range<usize>,
+        ) -> Called<Store> {
             let (buffer, directory) = (&self.buffer, &self.directory);
-            let outputs: [(&dyn Memory, usize); 2] =
-                [(buffer, buffer.length), (directory, directory.length)];
-            settle(code, inputs, &outputs, || Store {
+            input.unharmed(0)?;
+            let end = directory.length;
+            let numbers = numbers.start.min(end)..numbers.end.min(end);
+            buffer.unharmed_but(if code == 0 { bytes } else { 0..0 })?;
+            directory.unharmed_but(if code == 0 { numbers } else { 0..0 })?;
+            let left = || Store {
                 buffer: buffer.content().to_vec(),
                 directory: directory.content().to_vec(),
-            })
+            };
+            Ok(if code == 0 { Ok(left()) } else { Err(code) })
         }
     }
 
-    pub fn put(store: &Store, slot: u32, bitmap: &[u8], random: &mut Random) -> Called<Store> {
+    /// Nothing changes but the owner's half and its numbers.
+    pub fn put(
+        store: &Store,
+        owner: u32,
+        slot: u32,
+        bitmap: &[u8],
+        random: &mut Random,
+    ) -> Called<Store> {
         let mut lent = LentStore::of(store, random);
         let bitmap = Lent::input("bitmap", bitmap, random);
         let code = unsafe {
@@ -462,14 +486,22 @@ pub mod store {
                 lent.buffer.length,
                 lent.directory.pointer_mut(),
                 lent.directory.length,
+                owner,
                 slot,
                 bitmap.pointer(),
                 bitmap.length,
             )
         };
-        lent.settle(code, &[&bitmap])
+        let half = own_half(lent.buffer.length, owner as usize);
+        let numbers = match owner {
+            0 => 0..OWN_NUMBERS,
+            1 => OWN_NUMBERS..2 * OWN_NUMBERS,
+            _ => 0..0,
+        };
+        lent.settle(code, &bitmap, half, numbers)
     }
 
+    /// Nothing changes but the two halves and all numbers.
     pub fn load(store: &Store, saved: &[u8], random: &mut Random) -> Called<Store> {
         let mut lent = LentStore::of(store, random);
         let saved = Lent::input("saved", saved, random);
@@ -483,15 +515,17 @@ pub mod store {
                 saved.length,
             )
         };
-        lent.settle(code, &[&saved])
+        let halves = 0..2 * (lent.buffer.length / 2);
+        lent.settle(code, &saved, halves, 0..lent.directory.length)
     }
 
     /// Put into a store too large to be copied, without guard cells.
-    pub fn put_in_place(store: &mut Store, slot: u32, bitmap: &[u8]) -> u32 {
+    pub fn put_in_place(store: &mut Store, owner: u32, slot: u32, bitmap: &[u8]) -> u32 {
         let Store { buffer, directory } = store;
-        let (to, numbers) = (directory.as_mut_ptr(), directory.len());
+        let (to, len) = (buffer.as_mut_ptr(), buffer.len());
+        let (numbers, count) = (directory.as_mut_ptr(), directory.len());
         let (from, length) = (bitmap.as_ptr(), bitmap.len());
-        unsafe { bv_store_put(buffer.as_mut_ptr(), buffer.len(), to, numbers, slot, from, length) }
+        unsafe { bv_store_put(to, len, numbers, count, owner, slot, from, length) }
     }
 
     /// Load into a store too large to be copied, without guard cells.
@@ -502,8 +536,20 @@ pub mod store {
         unsafe { bv_store_load(buffer.as_mut_ptr(), buffer.len(), to, numbers, from, length) }
     }
 
-    /// The directory after the call; its buffer is an input.
-    pub fn drop(store: &Store, slot: u32, random: &mut Random) -> Called<Vec<u32>> {
+    /// Fetch from a store too large to be copied, without guard cells.
+    pub fn fetch_in_place(store: &Store, owner: u32, slot: u32, out: &mut [u8]) -> (u32, usize) {
+        let Store { buffer, directory } = store;
+        let (from, len) = (buffer.as_ptr(), buffer.len());
+        let (numbers, count) = (directory.as_ptr(), directory.len());
+        let (to, room, mut length) = (out.as_mut_ptr(), out.len(), 0);
+        let code = unsafe {
+            bv_store_fetch(from, len, numbers, count, owner, slot, to, room, &mut length)
+        };
+        (code, length)
+    }
+
+    /// The directory after the call; its buffer is an input. Nothing changes but one number.
+    pub fn drop(store: &Store, owner: u32, slot: u32, random: &mut Random) -> Called<Vec<u32>> {
         let LentStore { buffer, mut directory } = LentStore::of(store, random);
         let code = unsafe {
             bv_store_drop(
@@ -511,13 +557,24 @@ pub mod store {
                 buffer.length,
                 directory.pointer_mut(),
                 directory.length,
+                owner,
                 slot,
             )
         };
-        settle(code, &[&buffer], &[(&directory, directory.length)], || directory.content().to_vec())
+        let number = 2 * slot as usize + 1;
+        let free = if code == 0 && number < directory.length { number..number + 1 } else { 0..0 };
+        buffer.unharmed(0)?;
+        directory.unharmed_but(free)?;
+        Ok(if code == 0 { Ok(directory.content().to_vec()) } else { Err(code) })
     }
 
-    pub fn fetch(store: &Store, slot: u32, room: usize, random: &mut Random) -> Called<Vec<u8>> {
+    pub fn fetch(
+        store: &Store,
+        owner: u32,
+        slot: u32,
+        room: usize,
+        random: &mut Random,
+    ) -> Called<Vec<u8>> {
         let LentStore { buffer, directory } = LentStore::of(store, random);
         written(&[&buffer, &directory], room, random, |out, room, length| unsafe {
             bv_store_fetch(
@@ -525,6 +582,7 @@ pub mod store {
                 buffer.length,
                 directory.pointer(),
                 directory.length,
+                owner,
                 slot,
                 out,
                 room,

@@ -30,6 +30,7 @@ pub fn faults() -> Vec<(&'static str, String)> {
         ("store", 1..=11),
         ("store", 13..=13),
         ("store", 40..=42),
+        ("store", 44..=44),
         ("rows", 20..=25),
         ("buckets", 20..=20),
         ("buckets", 25..=25),

@@ -3,20 +3,27 @@ use mathlib.Core.Path.{_≡_, refl, ap, _∙_}
 use mathlib.Core.List.{List}
 use Prim.Native.Nat.{ℕ}
 use Rattle.common.specs.Outcome.{Outcome, refused, found, status}
-use Rattle.store_spec.specs.Store.{told, doneOf, Changes, Drops}
+use Rattle.store_spec.specs.Store.{told, doneOf}
+use Rattle.store_spec.specs.Owners.{OwnChanges, OwnDrops, AllChanges}
 use Rattle.store_spec.specs.declared.Stored.{Stored}
-use Rattle.c_store.specs.Storing.{StoreCall, DropCall}
+use Rattle.c_store.specs.Storing.{PutCall, DropCall, LoadCall}
 
-done-status : (o : Outcome (List (List ℕ))) → status (doneOf o) ≡ status o
+-- the status of what a call told
+told-status : (x : Outcome (List (List ℕ))) (s : Stored) (r : ℕ) → told s ≡ doneOf x → r ≡ status (told s)
+    → r ≡ status x
 unfolding doneOf
-done-status (refused n) = refl
-done-status (found es) = refl
+told-status x s r t e = e ∙ ap status t ∙ done x
+  where
+    done : (x : Outcome (List (List ℕ))) → status (doneOf x) ≡ status x
+    done (refused n) = refl
+    done (found es) = refl
 
-pub changed : (o : Outcome (List (List ℕ))) (dir buf dir′ buf′ : List ℕ) (s : Stored) (r : ℕ)
-    → Changes o 64 dir buf dir′ buf′ s → r ≡ status (told s) → StoreCall o r dir buf dir′ buf′
-changed o dir buf dir′ buf′ s r c e = record { says = e ∙ ap status (c .says) ∙ done-status o; left = c .left }
+module _ (x : Outcome (List (List ℕ))) (s : Stored) (r : ℕ) (e : r ≡ status (told s)) (dir buf dir′ : List ℕ) where
+  pub put-call : (o : ℕ) (buf′ : List ℕ) → OwnChanges o x dir buf dir′ buf′ s → PutCall o x r dir buf dir′ buf′
+  put-call o buf′ c = record { says = told-status x s r (c .says) e; left = c .left }
 
-pub dropped : (o : Outcome (List (List ℕ))) (k : ℕ) (dir buf dir′ : List ℕ) (s : Stored) (r : ℕ)
-    → Drops o 64 k dir buf dir′ s → r ≡ status (told s) → DropCall o k r dir buf dir′
-dropped o k dir buf dir′ s r d e =
-    record { says = e ∙ ap status (d .says) ∙ done-status o; numbers = d .numbers; left = d .left }
+  pub drop-call : (o k : ℕ) → OwnDrops o x k dir buf dir′ s → DropCall o x k r dir buf dir′
+  drop-call o k c = record { says = told-status x s r (c .says) e; numbers = c .numbers; left = c .left }
+
+  pub load-call : (buf′ : List ℕ) → AllChanges x dir buf dir′ buf′ s → LoadCall x r dir buf dir′ buf′
+  load-call buf′ c = record { says = told-status x s r (c .says) e; left = c .left }

@@ -1,5 +1,5 @@
 -- What put and drop of a slot do to the answers of that slot and of the others, and when a put is refused for room.
--- es are the entries before the call, those of a whole store or of any share of it; es′ those after it.
+-- es are the entries of any share before the call, es′ those after it.
 -- Assumes nothing.
 use mathlib.Core.Path.{_≡_, refl, sym, _∙_}
 use mathlib.Core.Logic.{⊎-elim}

@@ -10,3 +10,6 @@ pub mod Loads
 pub mod Returns
 pub mod Status
 pub mod Calls
+pub mod Halves
+pub mod Isolation
+pub mod Steps

@@ -168,21 +168,38 @@ read s r byte e end =
     let z : drop (r .next) s ≡ [] = rw end (drop-length s) in
     rw (x .all) (record { many = x .many; each = x .each; bytes = x .bytes ∙ rw z (append-nil (saved (x .es))) })
 
--- "load accepts exactly such entries .. where the forms together aren't longer than the buffer, and each slot then
--- holds its entry"
+-- "load accepts exactly such entries .. and each slot then holds its entry"; 42 "for a saved half that doesn't fit";
+-- room is a half's length
 module _ (dir : List ℕ) (room : ℕ) (s : List ℕ) (cs : List (List ℕ)) where
-  pub load-saved : length dir ≡ 128 → Saves cs s → total cs ≤ room → loadOn dir room s ≡ found cs
+  pub load-saved : length dir ≡ 128 → Saves cs s → total (take 32 cs) ≤ room → total (drop 32 cs) ≤ room
+      → loadOn dir room s ≡ found cs
   unfolding loadOn fitting need
-  load-saved len g fits = rw (eq-eqb _ _ len, back cs s g, eq-eqb (length s) (length s) refl, le-leb _ _ fits)
+  load-saved len g first last =
+      rw (
+        eq-eqb _ _ len,
+        back cs s g,
+        eq-eqb (length s) (length s) refl,
+        le-leb (total (take 32 cs)) room first,
+        le-leb (total (drop 32 cs)) room last,
+      )
 
   pub saved-load : ((i : ℕ) → getD s i 0 < 256) → loadOn dir room s ≡ found cs
-      → (length dir ≡ 128) × Saves cs s × (total cs ≤ room)
+      → (length dir ≡ 128) × Saves cs s × (total (take 32 cs) ≤ room) × (total (drop 32 cs) ≤ room)
   unfolding loadOn fitting
   saved-load byte e =
       let a = need-found (eqb (length dir) 128) 42 _ cs e in
       let r = then-found (scan s 0 [] 64) (fitting room s) cs (a .1) in
       let b = need-found (eqb (r .0 .next) (length s)) 42 _ cs (r .2) in
-      let f = need-found (leb (total (r .0 .held)) room) 42 _ cs (b .1) in
-      let q : r .0 .held ≡ cs = same-found (f .1) in
+      let f = need-found (leb (total (take 32 (r .0 .held))) room) 42 _ cs (b .1) in
+      let l = need-found (leb (total (drop 32 (r .0 .held))) room) 42 _ cs (f .1) in
+      let q : r .0 .held ≡ cs = same-found (l .1) in
       let g = read s (r .0) byte (r .1) (eqb-true _ _ (b .0)) in
-      (eqb-true _ _ (a .0), rw q at g, rw q at (leb-true (total (r .0 .held)) room (f .0)))
+      let first = leb-true (total (take 32 (r .0 .held))) room (f .0) in
+      let last = leb-true (total (drop 32 (r .0 .held))) room (l .0) in
+      (eqb-true _ _ (a .0), rw q at g, rw q at first, rw q at last)
+
+-- entries saved behind others are saved with them
+pub saved-cat : (xs ys : List (List ℕ)) → saved (xs ++ ys) ≡ saved xs ++ saved ys
+unfolding saved
+saved-cat [] ys = refl
+saved-cat (x ∷ xs) ys = rw (saved-cat xs ys) (simp append-assoc)

@@ -1,15 +1,17 @@
--- Entries read one after another: each step, how many they are, and that they are found or refused by 42.
+-- Entries read one after another: each step, how many they are, that they are found or refused by 42, and how they are
+-- read in two parts.
 -- Assumes nothing.
-use mathlib.Core.Path.{_≡_, refl, ap}
+use mathlib.Core.Path.{_≡_, refl, sym, ap, _∙_}
 use mathlib.Core.Logic.{_⊎_, inl, inr}
 use mathlib.Core.Bool.{Bool, true, false}
-use mathlib.Core.List.{List, [], _∷_, _++_}
+use mathlib.Core.List.{List, [], _∷_, _++_, append-assoc, append-nil}
 use Prim.Native.Nat.{ℕ, zero, suc, _+_}
+use native.Mathlib.Nat.{zero-add, suc-add}
 use native.Mathlib.Omega.{arith}
 use borrow.Author.Tests.{eq-eqb, ne-eqb}
 use lib.ListN.{length, take, drop, length-append}
 use lib.Dec.{leb, eqb}
-use Rattle.common.specs.Outcome.{either, Outcome, refused, found, need}
+use Rattle.common.specs.Outcome.{either, Outcome, refused, found, then, need}
 use Rattle.bitmap_laws.proofs.Accept.{then-found}
 use Rattle.row_spec.specs.Varint.{varintAt}
 use Rattle.row_spec.specs.declared.Varint.{Varint}
@@ -105,3 +107,58 @@ scan-or s at acc (suc n) = go (entry-or s at) (λ t. scan-or s (t .next) (acc ++
         → Known (scan s at acc (suc n))
     go (inl t) f = rw (scan-step s at acc n (t .0) (t .1)) (f (t .0))
     go (inr e) f = inr (scan-bad s at acc n e)
+
+-- ---- in two parts
+
+-- what was read, behind acc
+abbrev behind : List (List ℕ) → Scan → Outcome Scan
+behind acc r = found (record { held = acc ++ r .held; next = r .next })
+
+-- entries from before only stand in front of what is read
+scan-front : (s : List ℕ) (at : ℕ) (acc more : List (List ℕ)) (n : ℕ)
+    → scan s at (acc ++ more) n ≡ then (scan s at more n) (behind acc)
+unfolding scan
+scan-front s at acc more zero = refl
+scan-front s at acc more (suc n) = go (entryFrom s at) (λ t. scan-front s (t .next) acc (more ++ (t .entry ∷ [])) n)
+  where
+    go : (o : Outcome Taken)
+        → ((t : Taken) → scan s (t .next) (acc ++ (more ++ (t .entry ∷ []))) n
+        ≡ then (scan s (t .next) (more ++ (t .entry ∷ [])) n) (behind acc))
+        → then o (λ t. scan s (t .next) ((acc ++ more) ++ (t .entry ∷ [])) n)
+        ≡ then (then o (λ t. scan s (t .next) (more ++ (t .entry ∷ [])) n)) (behind acc)
+    go (refused m) f = refl
+    go (found t) f = rw (append-assoc acc more (t .entry ∷ [])) (f t)
+
+-- m + n entries are m of them and then n, from the byte after those
+scan-split : (s : List ℕ) (at : ℕ) (acc : List (List ℕ)) (m n : ℕ)
+    → scan s at acc (m + n) ≡ then (scan s at acc m) (λ r. scan s (r .next) (r .held) n)
+unfolding scan
+scan-split s at acc zero n = ap (scan s at acc) (zero-add n)
+scan-split s at acc (suc m) n =
+    ap (scan s at acc) (suc-add m n) ∙ go (entryFrom s at) (λ t. scan-split s (t .next) (acc ++ (t .entry ∷ [])) m n)
+  where
+    go : (o : Outcome Taken)
+        → ((t : Taken) → scan s (t .next) (acc ++ (t .entry ∷ [])) (m + n)
+        ≡ then (scan s (t .next) (acc ++ (t .entry ∷ [])) m) (λ r. scan s (r .next) (r .held) n))
+        → then o (λ t. scan s (t .next) (acc ++ (t .entry ∷ [])) (m + n))
+        ≡ then (then o (λ t. scan s (t .next) (acc ++ (t .entry ∷ [])) m)) (λ r. scan s (r .next) (r .held) n)
+    go (refused k) f = refl
+    go (found t) f = f t
+
+-- 64 entries are 32 and then 32
+module _ (s : List ℕ) where
+  pub first-bad : scan s 0 [] 32 ≡ refused 42 → scan s 0 [] 64 ≡ refused 42
+  first-bad e = scan-split s 0 [] 32 32 ∙ rw e
+
+  module _ (x : Scan) (ex : scan s 0 [] 32 ≡ found x) where
+    halves : scan s 0 [] 64 ≡ then (scan s (x .next) [] 32) (behind (x .held))
+    halves =
+        let front = ap (λ (l : List (List ℕ)). scan s (x .next) l 32) (sym (append-nil (x .held))) in
+        scan-split s 0 [] 32 32 ∙ rw ex (front ∙ scan-front s (x .next) (x .held) [] 32)
+
+    pub second-bad : scan s (x .next) [] 32 ≡ refused 42 → scan s 0 [] 64 ≡ refused 42
+    second-bad e = halves ∙ rw e
+
+    pub both-good : (y : Scan) → scan s (x .next) [] 32 ≡ found y
+        → scan s 0 [] 64 ≡ found (record { held = x .held ++ y .held; next = y .next })
+    both-good y e = halves ∙ rw e

@@ -145,10 +145,6 @@ pub entries-is : (n : ℕ) (dir buf : List ℕ) → length dir ≡ 2 * n → Lie
 unfolding entries need
 entries-is n dir buf e q = rw (eq-eqb _ _ e, lies-sound n dir buf q)
 
-pub entries-short : (n : ℕ) (dir buf : List ℕ) → (length dir ≡ 2 * n → ⊥) → entries n dir buf ≡ refused 42
-unfolding entries need
-entries-short n dir buf e = rw (ne-eqb _ _ e)
-
 -- ---- entries
 pub many-entries : (n : ℕ) (dir buf : List ℕ) → length (entriesOf n dir buf) ≡ n
 unfolding entriesOf

@@ -1,4 +1,4 @@
--- The steps of loading: one entry read, one entry given, and the whole.
+-- The steps of loading: one entry read, one entry given, and all of a share.
 -- Assumes nothing.
 use mathlib.Core.Path.{_≡_, refl, sym, ap, ap₂, _∙_}
 use mathlib.Core.Logic.{⊎-elim}
@@ -7,7 +7,7 @@ use mathlib.Core.List.{List, [], _∷_, _++_}
 use Prim.Native.Nat.{ℕ, zero, suc, _+_, _-_, _*_, _≤_, _<_}
 use native.Mathlib.Nat.{eq-or-lt-of-le}
 use native.Mathlib.Omega.{arith}
-use borrow.Author.Tests.{eq-eqb, ne-eqb, le-leb, lt-leb}
+use borrow.Author.Tests.{le-leb, lt-leb}
 use lib.ListN.{length, getD, set, take, drop, length-append, length-set, List·getD-append, List·getD-eq-default}
 use lib.Seq.{ext-getD, getD-append-seam, getD-set-same, getD-set-other}
 use Rattle.common.specs.Outcome.{Outcome, refused, found, need}
@@ -16,15 +16,14 @@ use Rattle.bitmap_spec.proofs.Window.{below-or}
 use Rattle.row_spec.specs.Varint.{varintAt}
 use Rattle.row_spec.specs.declared.Varint.{Varint}
 use Rattle.row_spec.specs.declared.Varint.the-variants as groups
-use Rattle.store_spec.specs.Store.{isForm, lengthAt, endAt, entryAt, entriesOf, total, doneOf, Left, Changes}
-use Rattle.store_spec.specs.declared.Stored.the-variants as storing
+use Rattle.store_spec.specs.Store.{isForm, lengthAt, endAt, entryAt, entriesOf, total, Left}
 use Rattle.bitmap_laws.proofs.Parts.{part-length}
 use Rattle.store_laws.proofs.Slots.{same-or, Lies, form-few, entry-is, many-entries, entries-is}
 use Rattle.store_laws.proofs.Changes.{laid-lies, laid-entries, length-kept, length-same, start-kept}
 use Rattle.store_laws.proofs.Changes.{start-other, start-new, length-new, end-is, entry-none}
-use Rattle.store_spec.specs.Saved.{isEntry, Taken, entryFrom, Scan, scan, fitting, loadOn}
+use Rattle.store_spec.specs.Saved.{isEntry, Taken, entryFrom, Scan, scan}
 use Rattle.bitmap_spec.proofs.Reading.{need-found}
-use Rattle.store_laws.proofs.Scans.{empty-entry, some-entry, scan-step, scan-bad, scan-took, scan-over, all-many}
+use Rattle.store_laws.proofs.Scans.{empty-entry, some-entry, scan-step, scan-bad, scan-took, scan-over}
 use Rattle.store_load.specs.Loading.{Given, Frames, Takes, Scans, Loading}
 use Rattle.store_load.specs.declared.Took.{Took}
 use Rattle.store_load.specs.declared.Took.the-variants as taking
@@ -338,48 +337,3 @@ given-left n dir buf dir′ buf′ es d b len m l g = (d, b, entries-is n dir′
     entries =
         ext-getD [] (entriesOf n dir′ buf′) es (many-entries n dir′ buf′ ∙ sym m)
         (λ j p. let r : j < n = rw (many-entries n dir′ buf′) at p in entry-is n dir′ buf′ j r ∙ g j r)
-
-module _ (dir buf s : List ℕ) where
-  pub load-short : (length dir ≡ 128 → ⊥) → loadOn dir (length buf) s ≡ refused 42
-  unfolding loadOn need
-  load-short h = rw (ne-eqb _ _ h)
-
-  module _ (len : length dir ≡ 128) where
-    pub load-bad : scan s 0 [] 64 ≡ refused 42 → loadOn dir (length buf) s ≡ refused 42
-    unfolding loadOn need
-    load-bad e = rw (eq-eqb _ _ len, e)
-
-    module _ (x : Scan) (e : scan s 0 [] 64 ≡ found x) (next t : ℕ) (en : next ≡ x .next) (et : t ≡ total (x .held))
-      where
-        pub load-behind : (next ≡ length s → ⊥) → loadOn dir (length buf) s ≡ refused 42
-        unfolding loadOn need fitting
-        load-behind h = rw (eq-eqb _ _ len, e, ne-eqb (x .next) (length s) (λ q. h (en ∙ q)))
-
-        pub load-full : next ≡ length s → length buf < t → loadOn dir (length buf) s ≡ refused 42
-        unfolding loadOn need fitting
-        load-full q h =
-            rw (
-              eq-eqb _ _ len,
-              e,
-              eq-eqb (x .next) (length s) (sym en ∙ q),
-              lt-leb (total (x .held)) (length buf) (omega arith),
-            )
-
-        load-is : next ≡ length s → t ≤ length buf → loadOn dir (length buf) s ≡ found (x .held)
-        unfolding loadOn need fitting
-        load-is q h =
-            rw (
-              eq-eqb _ _ len,
-              e,
-              eq-eqb (x .next) (length s) (sym en ∙ q),
-              le-leb (total (x .held)) (length buf) (omega arith),
-            )
-
-        pub load-done : next ≡ length s → t ≤ length buf → (dir′ buf′ : List ℕ) → length dir′ ≡ length dir
-            → length buf′ ≡ length buf → Lies 64 dir′ buf′
-            → ((j : ℕ) → j < 64 → entryAt dir′ buf′ j ≡ getD (x .held) j [])
-            → Changes (loadOn dir (length buf) s) 64 dir buf dir′ buf′ storing.Done
-        unfolding doneOf
-        load-done q h dir′ buf′ d b l g =
-            let left = given-left 64 dir buf dir′ buf′ (x .held) d b len (all-many s 0 64 x e) l g in
-            record { says = rw (load-is q h); left = rw (load-is q h) left }

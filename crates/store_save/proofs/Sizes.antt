@@ -9,20 +9,19 @@ use native.Mathlib.Numerals.{add-one}
 use native.Mathlib.Omega.{arith}
 use borrow.Author.Tests.{lt-ltb, le-ltb}
 use lib.ListN.{length, set, take, drop, length-append}
-use Rattle.common.specs.Outcome.{refused}
 use Rattle.common.specs.Lists.{from}
-use Rattle.bitmap_spec.specs.Output.{written, placed}
+use Rattle.bitmap_spec.specs.Output.{written}
 use Rattle.bitmap_spec.proofs.Tally.{tally, tally-cons}
 use Rattle.bitmap_spec.proofs.Window.{below-or}
 use Rattle.bitmap_laws.proofs.Cuts.{from-cons, from-none}
 use Rattle.bitmap_laws.proofs.Output.{written-none, written-more, written-cat, Along}
 use Rattle.bitmap_laws.proofs.Output.{along-room, along-length}
 use Rattle.bitmap_laws.proofs.Parts.{part-length}
-use Rattle.store_spec.specs.Store.{startAt, lengthAt, endAt, entryAt, entriesOf, entries}
-use Rattle.store_laws.proofs.Slots.{Lies, form-few, entry-long, entries-is, entries-short}
+use Rattle.store_spec.specs.Store.{startAt, lengthAt, endAt, entryAt, entriesOf}
+use Rattle.store_laws.proofs.Slots.{Lies, form-few, entry-long}
 use Rattle.store_save.specs.Size.{entrySize}
 use Rattle.row_spec.specs.Varint.{padded, leastFrom, groupsOf, shortest}
-use Rattle.store_spec.specs.Saved.{saved, saveOn}
+use Rattle.store_spec.specs.Saved.{saved}
 
 -- ---- lengths
 module _ (n : ℕ) where
@@ -153,17 +152,3 @@ save-room n dir buf k s h g room =
       length-append (shortest (lengthAt dir k) ++ entryAt dir buf k)
           (saved (map (entryAt dir buf) (from (k + 1) (n - (k + 1))))),
     )
-
--- ---- the whole call
-pub save-short : (room : ℕ) (dir buf : List ℕ) → (length dir ≡ 128 → ⊥) → saveOn room dir buf ≡ refused 42
-unfolding saveOn
-save-short room dir buf h = rw (entries-short 64 dir buf h)
-
-pub save-is : (room : ℕ) (dir buf : List ℕ) → Lies 64 dir buf → length dir ≡ 128
-    → saveOn room dir buf ≡ placed (saved (entriesOf 64 dir buf)) room
-unfolding saveOn
-save-is room dir buf s len = rw (entries-is 64 dir buf len s)
-
-pub save-bad : (room : ℕ) (dir buf : List ℕ) → entries 64 dir buf ≡ refused 42 → saveOn room dir buf ≡ refused 42
-unfolding saveOn
-save-bad room dir buf e = rw e

@@ -51,7 +51,7 @@ fn put_groups(n: usize, out: &mut [u8], at: usize) -> usize
 // How many bytes the saved entries of a sound share take.
 pub fn entries_size(dir: &[u32], n: usize) -> usize
     requires { ⌜ (n ≤ 64) × (length (now dir) ≡ 2 * n) × ((k : ℕ) → k < n → lengthAt (now dir) k < 2097152) ⌝ }
-    ensures { λ r. ⌜ r ≡ tally (entrySize (now (dir .entry))) 0 n ⌝ }
+    ensures { λ r. ⌜ (r ≡ tally (entrySize (now (dir .entry))) 0 n) × (r ≤ n * 2097155) ⌝ }
 {
     let mut t: usize = 0;
     let mut k: usize = 0;

@@ -1,5 +1,5 @@
-// The calls on one share of a store: n slots with their directory and their part of the buffer. The whole store is one share. Inner: no
-// entry point.
+// The calls on one share of a store: n slots with their directory and their part of the buffer. An owner's slots and half are one. Inner:
+// no entry point.
 ghost use mathlib.Core.Path.{_≡_};
 ghost use Prim.Native.Nat.{_+_, _*_, _≤_, _<_};
 ghost use lib.ListN.{length, set};

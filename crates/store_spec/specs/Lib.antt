@@ -1,2 +1,4 @@
 pub mod Store
+pub mod Owners
 pub mod Saved
+pub mod Runs

@@ -9,7 +9,8 @@ use Rattle.bitmap_spec.specs.Output.{placed}
 use Rattle.row_spec.specs.Varint.{varintAt, shortest}
 use Rattle.row_spec.specs.declared.Varint.{Varint}
 use Rattle.row_spec.specs.declared.Varint.the-variants.{Number, CutShort, IllFormed}
-use Rattle.store_spec.specs.Store.{isForm, entries, total}
+use Rattle.store_spec.specs.Store.{isForm, total}
+use Rattle.store_spec.specs.Owners.{allEntries}
 
 -- ---- saving
 
@@ -20,7 +21,7 @@ saved (e ∷ es) = shortest (length e) ++ (e ++ saved es)
 
 -- 42, then 13; out is the output's length
 unfoldable pub saveOn : ℕ → List ℕ → List ℕ → Outcome (List ℕ)
-saveOn out dir buf = then (entries 64 dir buf) (λ es. placed (saved es) out)
+saveOn out dir buf = then (allEntries dir buf) (λ es. placed (saved es) out)
 
 -- ---- loading
 
@@ -56,9 +57,12 @@ unfoldable pub scan : List ℕ → ℕ → List (List ℕ) → ℕ → Outcome S
 scan s at acc zero = found (record { held = acc; next = at })
 scan s at acc (suc n) = then (entryFrom s at) (λ t. scan s (t .next) (acc ++ (t .entry ∷ [])) n)
 
--- "and nothing behind, where the forms together aren't longer than the buffer"; room is the buffer's length
+-- "and nothing behind"; 42 "for a saved half that doesn't fit": the first 32 forms or the last; room is a half's length
 unfoldable pub fitting : ℕ → List ℕ → Scan → Outcome (List (List ℕ))
-fitting room s r = need (eqb (r .next) (length s)) 42 (need (leb (total (r .held)) room) 42 (found (r .held)))
+fitting room s r =
+    need (eqb (r .next) (length s)) 42
+    (need (leb (total (take 32 (r .held))) room) 42
+    (need (leb (total (drop 32 (r .held))) room) 42 (found (r .held))))
 
 -- "load doesn't judge the shelf it replaces"; a directory of another length is 42
 unfoldable pub loadOn : List ℕ → ℕ → List ℕ → Outcome (List (List ℕ))

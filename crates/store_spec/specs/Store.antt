@@ -1,14 +1,15 @@
 -- A store of bitmaps (02: a shelf of zone masks): a directory of numbers and a buffer of bytes, what the two mean, and
--- what a call makes of that meaning.
--- Slot k has the numbers 2k, where its form starts in the buffer, and 2k + 1, how long it is; a length of 0 is an empty
--- slot, whatever its start says. An entry is the bytes that a slot holds: none, or the one written form of a set, which
--- has at least six. A share is a directory of 2n numbers and the bytes they speak of; the whole store is one of 64 slots.
+-- what a call makes of that meaning. All of it is of a share: 2n numbers and the bytes they speak of. An owner's is one
+-- of 32 slots.
+-- Slot k of a share has its numbers 2k, where its form starts in the share's bytes, and 2k + 1, how long it is; a
+-- length of 0 is an empty slot, whatever its start says. An entry is the bytes that a slot holds: none, or the one
+-- written form of a set, which has at least six.
 use Prim.Native.Nat.{ℕ, _+_, _*_}
 use mathlib.Core.Path.{_≡_}
 use mathlib.Core.Bool.{Bool, true, false}
 use mathlib.Core.List.{List, [], _∷_, map}
 use lib.ListN.{length, getD, set, take, drop}
-use lib.Dec.{leb, ltb, eqb}
+use lib.Dec.{leb, eqb}
 use Rattle.common.specs.Outcome.{both, either, Outcome, refused, found, then, need}
 use Rattle.common.specs.Lists.{from, every}
 use Rattle.bitmap_spec.specs.Judge.{judge}
@@ -74,7 +75,7 @@ entriesOf n dir buf = map (entryAt dir buf) (from 0 n)
 unfoldable pub entries : ℕ → List ℕ → List ℕ → Outcome (List (List ℕ))
 entries n dir buf = need (eqb (length dir) (2 * n)) 42 (need (sound n dir buf) 42 (found (entriesOf n dir buf)))
 
--- ---- what a call makes of the entries es, where k is the slot and room the buffer's length
+-- ---- what a call makes of the entries es, where k is the slot and room the length of the share's bytes
 
 -- how long the entries are together
 unfoldable pub total : List (List ℕ) → ℕ
@@ -102,27 +103,16 @@ fetchIn out k es = need (some (getD es k [])) 41 (placed (getD es k []) out)
 unfoldable pub dropIn : ℕ → List (List ℕ) → Outcome (List (List ℕ))
 dropIn k es = need (some (getD es k [])) 41 (found (set es k []))
 
--- ---- the calls on a whole store: "40 slot number over 63, first"
-
-unfoldable pub putOn : ℕ → List ℕ → List ℕ → List ℕ → Outcome (List (List ℕ))
-putOn k bitmap dir buf = need (ltb k 64) 40 (then (entries 64 dir buf) (putIn (length buf) k bitmap))
-
-unfoldable pub fetchOn : ℕ → ℕ → List ℕ → List ℕ → Outcome (List ℕ)
-fetchOn k out dir buf = need (ltb k 64) 40 (then (entries 64 dir buf) (fetchIn out k))
-
-unfoldable pub dropOn : ℕ → List ℕ → List ℕ → Outcome (List (List ℕ))
-dropOn k dir buf = need (ltb k 64) 40 (then (entries 64 dir buf) (dropIn k))
-
 -- ---- what a call answers, and the store that it leaves
 
--- the answer that the code's enum stands for
-abbrev pub told : Stored → Outcome ℕ
+-- the answer that the code's enum stands for: the refusal, or no bytes
+abbrev pub told : Stored → Outcome (List ℕ)
 told (storing.Refused n) = refused n
-told storing.Done = found 0
+told storing.Done = found []
 
-unfoldable pub doneOf : Outcome (List (List ℕ)) → Outcome ℕ
+unfoldable pub doneOf : Outcome (List (List ℕ)) → Outcome (List ℕ)
 doneOf (refused n) = refused n
-doneOf (found es) = found 0
+doneOf (found es) = found []
 
 -- A refused call leaves directory and buffer as they were. Else the directory and the buffer, which keep their lengths,
 -- mean the entries es: "where forms lie, and all other bytes, are free".
@@ -131,7 +121,7 @@ Left (refused m) n dir buf dir′ buf′ = (dir′ ≡ dir) × (buf′ ≡ buf)
 Left (found es) n dir buf dir′ buf′ =
     (length dir′ ≡ length dir) × (length buf′ ≡ length buf) × (entries n dir′ buf′ ≡ found es)
 
--- put and load: a call of outcome o on a share of n slots answers r and turns dir and buf into dir′ and buf′
+-- put: a call of outcome o on a share of n slots answers r and turns dir and buf into dir′ and buf′
 pub record Changes (o : Outcome (List (List ℕ))) (n : ℕ) (dir buf dir′ buf′ : List ℕ) (r : Stored) : Type 0 where
   pub says : told r ≡ doneOf o
   pub left : Left o n dir buf dir′ buf′

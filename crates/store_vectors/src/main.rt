@@ -4,8 +4,9 @@
 //   new LEN NUMBERS        a fresh store: a buffer of up to 1,024 bytes, all EE, and a directory of up to 130 zeros
 //   at I VALUE             number I of the directory becomes VALUE
 //   bytes AT HEX           the buffer's bytes from AT on
-//   put SLOT HEX           fetch ROOM SLOT        drop SLOT        save ROOM        load HEX
+//   put OWNER SLOT HEX     fetch ROOM OWNER SLOT  drop OWNER SLOT  save ROOM        load HEX
 //   view SLOT              its two numbers
+//   get AT                 that byte of the buffer
 //
 // Of fetch and save the whole output is printed, where ee was left as it was. The file stdout was made by a script from 02
 // and a table of the bitmaps in these lines.
@@ -45,14 +46,14 @@ fn print_written(r: Written, out: &[u8]) {
 
 fn put(line: &[u8], dir: &mut [u32], buf: &mut [u8]) {
     let mut bitmap = [0u8; 512];
-    let n = vector_text::decode(vector_text::word(line, 2), &mut bitmap);
-    print_stored(store::put(dir, buf, number(line, 1), &bitmap[..n]));
+    let n = vector_text::decode(vector_text::word(line, 3), &mut bitmap);
+    print_stored(store::put(dir, buf, number(line, 1), number(line, 2), &bitmap[..n]));
 }
 
 // Fetch or save into an output that is there.
 fn give(line: &[u8], dir: &[u32], buf: &[u8], out: &mut [u8]) {
     if vector_text::starts(line, b'f') {
-        let r = store::fetch(dir, buf, number(line, 2), out);
+        let r = store::fetch(dir, buf, number(line, 2), number(line, 3), out);
         print_written(r, out);
         return;
     }
@@ -101,6 +102,16 @@ fn view(line: &[u8], dir: &[u32]) {
     }
 }
 
+// A byte of the buffer.
+fn get(line: &[u8], buf: &[u8]) {
+    let at = number(line, 1) as usize;
+    if at < buf.len() {
+        vector_text::print(b"byte ");
+        vector_text::print_bytes(&buf[at..at + 1]);
+        vector_text::print(b"\n");
+    }
+}
+
 // A step that changes the store.
 fn change(line: &[u8], dir: &mut [u32], buf: &mut [u8]) {
     if vector_text::starts(line, b'p') {
@@ -112,7 +123,7 @@ fn change(line: &[u8], dir: &mut [u32], buf: &mut [u8]) {
         return;
     }
     if vector_text::starts(line, b'd') {
-        print_stored(store::drop_slot(dir, buf, number(line, 1)));
+        print_stored(store::drop_slot(dir, buf, number(line, 1), number(line, 2)));
         return;
     }
     if vector_text::starts(line, b'a') {
@@ -139,6 +150,10 @@ fn look(line: &[u8], dir: &[u32], buf: &[u8]) {
     }
     if vector_text::starts(line, b'v') {
         view(line, dir);
+        return;
+    }
+    if vector_text::starts(line, b'g') {
+        get(line, buf);
     }
 }
 

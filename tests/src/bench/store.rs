@@ -1,32 +1,35 @@
-//! Calls on a store of 64 masks in a buffer without a spare byte.
+//! Calls on a store of 64 masks, 32 of each owner, in a buffer without a spare byte.
 
-use super::{form, measure, random_set, Line, Print};
+use super::{earlier, form, measure, random_set, Line, Print, Sides};
 use crate::ffi::store::{
     bv_store_drop, bv_store_fetch, bv_store_load, bv_store_put, bv_store_save,
 };
-use crate::generate::store::{saved, total, Entries, Store, SLOTS};
+use crate::generate::store::{own_slots, saved, total, Entries, Store, OWN_SLOTS, SLOTS};
 use crate::generate::Random;
 use crate::reference::store as reference;
 use std::hint::black_box;
+use std::sync::OnceLock;
 
-type Put = unsafe extern "C" fn(*mut u8, usize, *mut u32, usize, u32, *const u8, usize) -> u32;
+type Put = unsafe extern "C" fn(*mut u8, usize, *mut u32, usize, u32, u32, *const u8, usize) -> u32;
 type Fetch = unsafe extern "C" fn(
     *const u8,
     usize,
     *const u32,
     usize,
     u32,
+    u32,
     *mut u8,
     usize,
     *mut usize,
 ) -> u32;
-type Drop = unsafe extern "C" fn(*const u8, usize, *mut u32, usize, u32) -> u32;
+type Drop = unsafe extern "C" fn(*const u8, usize, *mut u32, usize, u32, u32) -> u32;
 type Save =
     unsafe extern "C" fn(*const u8, usize, *const u32, usize, *mut u8, usize, *mut usize) -> u32;
 type Load = unsafe extern "C" fn(*mut u8, usize, *mut u32, usize, *const u8, usize) -> u32;
 
-/// The slot that is put, fetched and dropped.
-const SLOT: usize = 31;
+/// The slot that is put, fetched and dropped, and its owner.
+const SLOT: usize = 47;
+const OWNER: u32 = 1;
 
 pub fn run(print: Print) {
     let mut random = Random::new(6);
@@ -43,6 +46,24 @@ pub fn run(print: Print) {
         #[cfg(feature = "read")]
         print(judge_line(&bench));
     }
+}
+
+/// The sides of a call, without an earlier library whose stores have no halves.
+fn halved<C: Copy>(sides: Sides<C>) -> Sides<C> {
+    static HALVES: OnceLock<bool> = OnceLock::new();
+    sides.if_earlier(|_| *HALVES.get_or_init(earlier_has_halves))
+}
+
+/// Whether the earlier library saves a store of two forms, each at the start of its half.
+fn earlier_has_halves() -> bool {
+    let Some(save) = earlier::call::<Save>("bv_store_save") else { return false };
+    let (mut store, mut out) = (Store::empty(12), [0; 76]);
+    store.write(0, 0, &form(&[]));
+    store.write(32, 0, &form(&[]));
+    let Store { buffer, directory } = &store;
+    let (from, numbers) = (directory.as_ptr(), directory.len());
+    let (to, room, mut length) = (out.as_mut_ptr(), out.len(), 0);
+    unsafe { save(buffer.as_ptr(), buffer.len(), from, numbers, to, room, &mut length) == 0 }
 }
 
 /// The set with one member at the next place of its container: a form of the same length.
@@ -67,11 +88,16 @@ impl Bench {
         format!("64 masks, {}, {} bytes", self.name, total(&self.entries))
     }
 
-    /// The full store, in the order of the slots.
+    /// The full store, in the order of the slots: both owners' forms are equally long together.
     fn store(&self) -> Store {
-        let mut store = Store::empty(0);
-        for (slot, entry) in self.entries.iter().enumerate() {
-            store.append(slot, entry);
+        let mut store = Store::empty(total(&self.entries));
+        for owner in [0, 1] {
+            let mut start = 0;
+            for slot in own_slots(owner) {
+                store.write(slot, start, &self.entries[slot]);
+                start += self.entries[slot].len();
+            }
+            assert_eq!(start, store.half());
         }
         store
     }
@@ -84,7 +110,7 @@ fn put_line(bench: &Bench) -> Line {
     let line = measure(
         "store put, slot empty",
         &bench.input(),
-        sides!(bv_store_put as Put),
+        halved(sides!(bv_store_put as Put)),
         &mut |call| {
             first.directory[2 * SLOT + 1] = 0;
             put(call, &mut first, SLOT, mask);
@@ -107,7 +133,7 @@ fn replace_line(bench: &Bench) -> Line {
     let line = measure(
         "store put, same length replaced",
         &bench.input(),
-        sides!(bv_store_put as Put),
+        halved(sides!(bv_store_put as Put)),
         &mut |call| {
             put(call, &mut first, SLOT, masks[turn % 2]);
             turn += 1;
@@ -123,19 +149,20 @@ fn replace_line(bench: &Bench) -> Line {
 }
 
 /// Two puts: {0} in place of a large mask, and a large mask in place of another slot's {0}. No byte is
-/// spare, so all forms that lie between the two have to be moved. Each time it is another slot that
-/// becomes {0}.
+/// spare, so all forms of the owner that lie between the two have to be moved. Each time it is another
+/// slot that becomes {0}.
 fn swap_line(bench: &Bench) -> Line {
     let (small, large) = (form(&[0]), bench.entries[SLOT].clone());
     let mut entries = vec![large.clone(); SLOTS];
     entries[small_slot(0)] = small.clone();
+    entries[small_slot(0) - OWN_SLOTS] = small.clone();
     let bench = Bench { name: bench.name, entries, moved: Vec::new() };
     let (mut first, mut second) = (bench.store(), bench.store());
     let (mut turn, mut second_turn) = (0, 0);
     let line = measure(
         "store put twice, large by small, small by large",
         &bench.input(),
-        sides!(bv_store_put as Put),
+        halved(sides!(bv_store_put as Put)),
         &mut |call| {
             put(call, &mut first, small_slot(turn + 1), &small);
             put(call, &mut first, small_slot(turn), &large);
@@ -150,14 +177,14 @@ fn swap_line(bench: &Bench) -> Line {
     for (store, turn) in [(first, turn), (second, second_turn)] {
         let entries = store.entries().expect("a sound store");
         let held = |slot| if slot == small_slot(turn) { &small } else { &large };
-        assert!((0..SLOTS).all(|slot| entries[slot] == *held(slot)));
+        assert!(own_slots(1).all(|slot| entries[slot] == *held(slot)));
     }
     line
 }
 
-/// The slot that holds {0}: all slots in turn, far from each other.
+/// The slot that holds {0}: all slots of the owner in turn, far from each other.
 fn small_slot(turn: usize) -> usize {
-    (turn * 23 + SLOT) % SLOTS
+    own_slots(1).start + (turn * 11 + SLOT) % OWN_SLOTS
 }
 
 fn put(call: Put, store: &mut Store, slot: usize, mask: &[u8]) {
@@ -168,6 +195,7 @@ fn put(call: Put, store: &mut Store, slot: usize, mask: &[u8]) {
             buffer.len(),
             directory.as_mut_ptr(),
             directory.len(),
+            OWNER,
             slot as u32,
             mask.as_ptr(),
             mask.len(),
@@ -178,7 +206,7 @@ fn put(call: Put, store: &mut Store, slot: usize, mask: &[u8]) {
 
 fn put_second(store: &mut Store, slot: usize, mask: &[u8]) {
     let Store { buffer, directory } = store;
-    assert_eq!(reference::put(buffer, directory, slot as u32, black_box(mask)), Ok(()));
+    assert_eq!(reference::put(buffer, directory, OWNER, slot as u32, black_box(mask)), Ok(()));
 }
 
 fn fetch_line(bench: &Bench) -> Line {
@@ -189,11 +217,11 @@ fn fetch_line(bench: &Bench) -> Line {
     let line = measure(
         "store fetch",
         &bench.input(),
-        sides!(bv_store_fetch as Fetch),
+        halved(sides!(bv_store_fetch as Fetch)),
         &mut |call| assert_eq!(fetch(call, &store, SLOT, &mut first), 0),
         &mut || {
-            black_box(reference::fetch(black_box(buffer), directory, SLOT as u32, &mut second))
-                .ok();
+            let buffer = black_box(buffer);
+            black_box(reference::fetch(buffer, directory, OWNER, SLOT as u32, &mut second)).ok();
         },
     );
     assert!(first == bench.entries[SLOT] && second == first);
@@ -209,6 +237,7 @@ fn fetch(call: Fetch, store: &Store, slot: usize, out: &mut [u8]) -> u32 {
             buffer.len(),
             directory.as_ptr(),
             directory.len(),
+            OWNER,
             slot as u32,
             out.as_mut_ptr(),
             out.len(),
@@ -226,18 +255,19 @@ fn drop_line(bench: &Bench) -> Line {
     let line = measure(
         "store drop",
         &bench.input(),
-        sides!(bv_store_drop as Drop),
+        halved(sides!(bv_store_drop as Drop)),
         &mut |call| {
             first.directory[2 * SLOT + 1] = length;
             let (buffer, directory) = (&first.buffer, &mut first.directory);
             let (numbers, to) = (directory.len(), directory.as_mut_ptr());
-            let code = unsafe { call(buffer.as_ptr(), buffer.len(), to, numbers, SLOT as u32) };
-            assert_eq!(code, 0);
+            let (from, slot) = (buffer.as_ptr(), SLOT as u32);
+            assert_eq!(unsafe { call(from, buffer.len(), to, numbers, OWNER, slot) }, 0);
         },
         &mut || {
             second.directory[2 * SLOT + 1] = length;
             let (buffer, directory) = (&second.buffer, &mut second.directory);
-            assert_eq!(reference::drop(black_box(buffer), directory, SLOT as u32), Ok(()));
+            let buffer = black_box(buffer);
+            assert_eq!(reference::drop(buffer, directory, OWNER, SLOT as u32), Ok(()));
         },
     );
     assert!(first == second);
@@ -251,7 +281,7 @@ fn save_line(bench: &Bench) -> Line {
     let line = measure(
         "store save",
         &bench.input(),
-        sides!(bv_store_save as Save),
+        halved(sides!(bv_store_save as Save)),
         &mut |call| {
             let (mut length, out) = (0, first.as_mut_ptr());
             let (from, numbers) = (directory.as_ptr(), directory.len());
@@ -275,7 +305,7 @@ fn load_line(bench: &Bench) -> Line {
     let line = measure(
         "store load",
         &bench.input(),
-        sides!(bv_store_load as Load),
+        halved(sides!(bv_store_load as Load)),
         &mut |call| {
             let Store { buffer, directory } = &mut first;
             let (to, numbers) = (directory.as_mut_ptr(), directory.len());
@@ -293,21 +323,23 @@ fn load_line(bench: &Bench) -> Line {
     line
 }
 
-/// A fetch without room, which does nothing but judge the store; in the second program's column the same
-/// library's 64 checks of the forms, one by one.
+/// A fetch without room, which does nothing but judge the owner's forms; in the second program's column
+/// the same library's 32 checks of them, one by one.
 #[cfg(feature = "read")]
 fn judge_line(bench: &Bench) -> Line {
     use crate::ffi::read::bv_bitmap_check;
 
     let store = bench.store();
+    let half = store.own_bytes(OWNER as usize);
     measure(
-        "store judged, by 64 checks of the library",
+        "store judged, by 32 checks of the library",
         &bench.input(),
-        sides!(bv_store_fetch as Fetch),
+        halved(sides!(bv_store_fetch as Fetch)),
         &mut |call| assert_eq!(fetch(call, &store, SLOT, &mut []), 13),
         &mut || {
-            for pair in store.directory.chunks_exact(2) {
-                let form = &store.buffer[pair[0] as usize..][..pair[1] as usize];
+            for slot in own_slots(OWNER as usize) {
+                let (start, length) = store.place(slot);
+                let form = &half[start as usize..][..length as usize];
                 let mut cardinality = 0;
                 let code = unsafe { bv_bitmap_check(form.as_ptr(), form.len(), &mut cardinality) };
                 assert_eq!(black_box((code, cardinality)).0, 0);

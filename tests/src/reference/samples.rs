@@ -28,28 +28,30 @@ fn bitmaps() {
     assert_eq!(sizes, [12, 41, 105]);
 }
 
-/// Saved from a store that the samples were put into; it loads into a buffer of 158 bytes.
+/// Saved from a store that the samples were put into; it loads into a buffer of 210 bytes, whose halves take
+/// the first two of the samples, and the last.
 #[test]
 fn saved_store() {
     let held = [(0, "zone.bitmap"), (7, "dense.bitmap"), (63, "last.bitmap")];
-    let (mut buffer, mut directory) = ([0; 158], [0; 128]);
+    let (mut buffer, mut directory) = ([0; 210], [0; 128]);
     for (slot, name) in held {
-        assert_eq!(store::put(&mut buffer, &mut directory, slot, &sample(name)), Ok(()));
+        let put = store::put(&mut buffer, &mut directory, slot / 32, slot, &sample(name));
+        assert_eq!(put, Ok(()));
     }
     let mut saved = [0; 222];
     assert_eq!(store::save(&buffer, &directory, &mut saved), Ok(222));
     assert_eq!(sample("store.saved"), saved);
-    let (mut buffer, mut directory) = ([0; 158], [0; 128]);
+    let (mut buffer, mut directory) = ([0; 210], [0; 128]);
     assert_eq!(store::load(&mut buffer, &mut directory, &saved), Ok(()));
     for slot in 0..64 {
         let mut out = [0; 105];
-        let fetched = store::fetch(&buffer, &directory, slot, &mut out);
+        let fetched = store::fetch(&buffer, &directory, slot / 32, slot, &mut out);
         match held.iter().find(|(filled, _)| *filled == slot) {
             Some((_, name)) => assert_eq!(out[..fetched.unwrap()], sample(name)),
             None => assert_eq!(fetched, Err(41)),
         }
     }
-    assert_eq!(store::load(&mut buffer[..157], &mut directory, &saved), Err(42));
+    assert_eq!(store::load(&mut buffer[..209], &mut directory, &saved), Err(42));
 }
 
 #[test]

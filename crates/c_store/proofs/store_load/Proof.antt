@@ -1,6 +1,6 @@
 -- The status is the answer's, and the store is left as the call left it. Assumes nothing.
 use borrow.Author.Needs.{needs}
-use Rattle.c_store.proofs.Calls.{changed}
+use Rattle.c_store.proofs.Calls.{load-call}
 use Rattle.c_store.proofs.store_load.Statement.{statement}
 use Rattle.c_store.proofs.store_load.Tie as tie
 
@@ -19,7 +19,7 @@ same-length-2 c = search needs
 returns : tie.Need-returns
 returns c =
     let load = c .before .before .before .before .before .load in
-    changed _ _ _ _ _ _ _ (load .ensures) (c .status-of .ensures)
+    load-call _ _ _ (c .status-of .ensures) _ _ _ _ (load .ensures)
 
 pub store-load-spec : {M : Type 1} → statement M
 store-load-spec =

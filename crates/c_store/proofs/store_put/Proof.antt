@@ -1,6 +1,6 @@
 -- The status is the answer's, and the store is left as the call left it. Assumes nothing.
 use borrow.Author.Needs.{needs}
-use Rattle.c_store.proofs.Calls.{changed}
+use Rattle.c_store.proofs.Calls.{put-call}
 use Rattle.c_store.proofs.store_put.Statement.{statement}
 use Rattle.c_store.proofs.store_put.Tie as tie
 
@@ -19,7 +19,7 @@ same-length-2 c = search needs
 returns : tie.Need-returns
 returns c =
     let put = c .before .before .before .before .before .put in
-    changed _ _ _ _ _ _ _ (put .ensures) (c .status-of .ensures)
+    put-call _ _ _ (c .status-of .ensures) _ _ _ _ _ (put .ensures)
 
 pub store-put-spec : {M : Type 1} → statement M
 store-put-spec =

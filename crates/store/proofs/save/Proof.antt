@@ -1,13 +1,12 @@
--- The store is judged, its length compared with the room, and then its entries are written.
+-- Both halves are judged, their lengths together compared with the room, and then written one behind the other.
 -- Assumes nothing.
 use borrow.Author.Tests.{not-true, not-false}
+use Rattle.bitmap_laws.proofs.Output.{refuse13, give}
 use Rattle.store_spec.specs.Saved.{saved}
-use Rattle.store_spec.specs.Store.{entriesOf}
-use Rattle.bitmap_laws.proofs.Output.{refuse13, give, from-start}
-use Rattle.store_laws.proofs.Slots.{entries-bad}
-use Rattle.store_share.proofs.Calls.{lies, gives-refused, gives-as}
-use Rattle.store_save.proofs.Sizes.{lengths-few, saved-size, save-short, save-bad, save-is}
-use mathlib.Core.Path.{sym, _∙_}
+use Rattle.store_share.proofs.Calls.{gives-refused, gives-as}
+use Rattle.store_save.proofs.Sizes.{lengths-few}
+use Rattle.store_halves.specs.Half.{held}
+use Rattle.store_halves.proofs.Saving.{good, both, sizes, save-short, save-first, save-second, save-is, both-written}
 use native.Mathlib.Omega.{arith}
 use borrow.Author.Needs.{needs}
 use Rattle.store.proofs.save.Statement.{statement}
@@ -22,71 +21,129 @@ is-sound-requires c κs = search needs
 returns-2 : tie.Need-returns-2
 returns-2 c =
     gives-refused _ 42 _
-    (save-bad _ _ _
-    (entries-bad 64 _ _ (c .before .before .if1 .left)
-    (sym (c .before .is-sound .ensures) ∙ not-true _ (c .if2 .taken))))
+    (save-first _ _ _ (c .before .before .if1 .left) _ (c .before .is-sound .ensures) (not-true _ (c .if2 .taken)))
 
-entries-size-requires : tie.Need-entries-size-requires
-entries-size-requires c κs =
-    let args = c .before .before .before .before .before .before .args in (
-      omega arith,
-      c .before .before .if1 .left,
-      lengths-few _ _ _
-          (lies 64 (args .dir .now) (args .buf .now) _ (c .before .is-sound .ensures) (not-false _ (c .if2 .left))),
-    )
+is-sound-requires-2 : tie.Need-is-sound-requires-2
+is-sound-requires-2 c κs = search needs
 
 returns-3 : tie.Need-returns-3
 returns-3 c =
     let args = c .before .before .before .before .before .before .before .before .args in
     let if1 = c .before .before .before .before .if1 in
     let is-sound = c .before .before .before .is-sound in
-    let if2 = c .before .before .if2 in
-    gives-as _ _ _ _ _ (save-is _ _ _ (lies _ _ _ _ (is-sound .ensures) (not-false _ (if2 .left))) (if1 .left))
-    (refuse13 (saved (entriesOf 64 (args .dir .now) (args .buf .now))) _
-    (omega (
-      arith,
-      c .before .entries-size .ensures,
-      c .if3 .taken,
-      saved-size 64 (args .dir .now) (args .buf .now)
-          (lies _ _ _ _ (is-sound .ensures) (not-false _ (if2 .left))),
-    )))
+    let first = good 0 (args .dir .now) (args .buf .now) _ (is-sound .ensures)
+    (not-false _ (c .before .before .if2 .left)) in
+    gives-refused _ 42 _
+    (save-second _ _ _ (if1 .left) first _ (c .before .is-sound2 .ensures) (not-true _ (c .if3 .taken)))
 
-put-entries-requires : tie.Need-put-entries-requires
-put-entries-requires c κs =
+entries-size-requires : tie.Need-entries-size-requires
+entries-size-requires c κs =
+    let args = c .before .before .before .before .before .before .before .before .args in
+    let if1 = c .before .before .before .before .if1 in
+    let is-sound = c .before .before .before .is-sound in
+    let first = good 0 (args .dir .now) (args .buf .now) _ (is-sound .ensures)
+    (not-false _ (c .before .before .if2 .left)) in
+    (omega arith, if1 .left, lengths-few 32 _ _ first)
+
+entries-size-requires-2 : tie.Need-entries-size-requires-2
+entries-size-requires-2 c κs =
     let args = c .before .before .before .before .before .before .before .before .before .args in
     let if1 = c .before .before .before .before .before .if1 in
-    let is-sound = c .before .before .before .before .is-sound in
-    let if2 = c .before .before .before .if2 in (
-      omega arith,
-      if1 .left,
-      lies _ _ _ _ (is-sound .ensures) (not-false _ (if2 .left)),
-      omega (
-        arith,
-        c .before .before .entries-size .ensures,
-        c .before .if3 .left,
-        saved-size 64 (args .dir .now) (args .buf .now)
-            (lies _ _ _ _ (is-sound .ensures) (not-false _ (if2 .left))),
-      ),
-    )
+    let second = good 1 (args .dir .now) (args .buf .now) _ (c .before .before .is-sound2 .ensures)
+    (not-false _ (c .before .if3 .left)) in
+    (omega arith, if1 .left, lengths-few 32 _ _ second)
 
-same-length : tie.Need-same-length
-same-length c = search needs
+add-if4 : tie.Need-add-if4
+add-if4 c = search needs
 
 returns-4 : tie.Need-returns-4
 returns-4 c =
+    let args = c .before .before .before .before .before .before .before .before .before .before .before .args in
+    let if1 = c .before .before .before .before .before .before .before .if1 in
+    let is-sound = c .before .before .before .before .before .before .is-sound in
+    let if2 = c .before .before .before .before .before .if2 in
+    let is-sound2 = c .before .before .before .before .is-sound2 in
+    let if3 = c .before .before .before .if3 in
+    let both-of = sizes (args .dir .now) (args .buf .now) _ _ _ _ (is-sound .ensures) (not-false _ (if2 .left))
+    (is-sound2 .ensures) (not-false _ (if3 .left)) (c .before .before .entries-size .ensures .0)
+    (c .before .entries-size2 .ensures .0) in
+    gives-as _ _ _ _ _ (save-is _ _ _ (if1 .left) (both-of .first) (both-of .second))
+    (refuse13 (both (args .dir .now) (args .buf .now)) _ (omega (arith, both-of .all, c .if4 .taken)))
+
+put-entries-requires : tie.Need-put-entries-requires
+put-entries-requires c κs =
     let args =
     c .before .before .before .before .before .before .before .before .before .before .before .before .args in
     let if1 = c .before .before .before .before .before .before .before .before .if1 in
     let is-sound = c .before .before .before .before .before .before .before .is-sound in
     let if2 = c .before .before .before .before .before .before .if2 in
-    let entries-size = c .before .before .before .before .before .entries-size in
+    let is-sound2 = c .before .before .before .before .before .is-sound2 in
     let if3 = c .before .before .before .before .if3 in
-    let z = saved-size 64 (args .dir .now) (args .buf .now)
-    (lies _ _ _ _ (is-sound .ensures) (not-false _ (if2 .left))) in
-    gives-as _ _ _ _ _ (save-is _ _ _ (lies _ _ _ _ (is-sound .ensures) (not-false _ (if2 .left))) (if1 .left))
-    (give (saved (entriesOf 64 (args .dir .now) (args .buf .now))) _ _ _
-    (omega (arith, entries-size .ensures, if3 .left))
-    (c .before .before .put-entries .ensures .1 ∙ from-start _ _) (entries-size .ensures ∙ sym z))
+    let entries-size = c .before .before .before .entries-size in
+    let both-of = sizes (args .dir .now) (args .buf .now) _ _ _ _ (is-sound .ensures) (not-false _ (if2 .left))
+    (is-sound2 .ensures) (not-false _ (if3 .left)) (entries-size .ensures .0)
+    (c .before .before .entries-size2 .ensures .0) in
+    (omega arith, if1 .left, both-of .first, omega (arith, both-of .one, c .before .if4 .left))
+
+put-entries-requires-2 : tie.Need-put-entries-requires-2
+put-entries-requires-2 c κs =
+    let args =
+    c .before .before .before .before .before .before .before .before .before .before .before .before .before
+    .before .before .before .args in
+    let if1 = c .before .before .before .before .before .before .before .before .before .before .before .before .if1 in
+    let is-sound =
+    c .before .before .before .before .before .before .before .before .before .before .before .is-sound in
+    let if2 = c .before .before .before .before .before .before .before .before .before .before .if2 in
+    let is-sound2 = c .before .before .before .before .before .before .before .before .before .is-sound2 in
+    let if3 = c .before .before .before .before .before .before .before .before .if3 in
+    let entries-size = c .before .before .before .before .before .before .before .entries-size in
+    let entries-size2 = c .before .before .before .before .before .before .entries-size2 in
+    let if4 = c .before .before .before .before .before .if4 in
+    let put-entries = c .before .before .before .put-entries in
+    let both-of = sizes (args .dir .now) (args .buf .now) _ _ _ _ (is-sound .ensures) (not-false _ (if2 .left))
+    (is-sound2 .ensures) (not-false _ (if3 .left)) (entries-size .ensures .0) (entries-size2 .ensures .0) in (
+      omega arith,
+      if1 .left,
+      both-of .second,
+      omega (arith, both-of .one, both-of .other, put-entries .ensures .0, put-entries .kept .1 .1 .1 .0, if4 .left),
+    )
+
+add-t10 : tie.Need-add-t10
+add-t10 c = search needs
+
+same-length : tie.Need-same-length
+same-length c = search needs
+
+returns-5 : tie.Need-returns-5
+returns-5 c =
+    let args =
+    c .before .before .before .before .before .before .before .before .before .before .before .before .before
+    .before .before .before .before .before .before .args in
+    let if1 =
+    c .before .before .before .before .before .before .before .before .before .before .before .before .before
+    .before .before .if1 in
+    let is-sound =
+    c .before .before .before .before .before .before .before .before .before .before .before .before .before
+    .before .is-sound in
+    let if2 =
+    c .before .before .before .before .before .before .before .before .before .before .before .before .before .if2 in
+    let is-sound2 =
+    c .before .before .before .before .before .before .before .before .before .before .before .before .is-sound2 in
+    let if3 = c .before .before .before .before .before .before .before .before .before .before .before .if3 in
+    let entries-size =
+    c .before .before .before .before .before .before .before .before .before .before .entries-size in
+    let entries-size2 = c .before .before .before .before .before .before .before .before .before .entries-size2 in
+    let if4 = c .before .before .before .before .before .before .before .before .if4 in
+    let put-entries = c .before .before .before .before .before .before .put-entries in
+    let both-of = sizes (args .dir .now) (args .buf .now) _ _ _ _ (is-sound .ensures) (not-false _ (if2 .left))
+    (is-sound2 .ensures) (not-false _ (if3 .left)) (entries-size .ensures .0) (entries-size2 .ensures .0) in
+    gives-as _ _ _ _ _ (save-is _ _ _ (if1 .left) (both-of .first) (both-of .second))
+    (give (both (args .dir .now) (args .buf .now)) _ _ _ (omega (arith, both-of .all, if4 .left))
+    (both-written _ _ _ (saved (held 0 (args .dir .now) (args .buf .now)))
+    (saved (held 1 (args .dir .now) (args .buf .now))) (put-entries .result) (put-entries .ensures .0)
+    (omega (arith, both-of .one, both-of .other, if4 .left)) (put-entries .ensures .1)
+    (c .before .before .put-entries2 .ensures .1))
+    (both-of .all))
 
 pub save-spec : {M : Type 1} → statement M
 save-spec =
@@ -95,8 +152,14 @@ save-spec =
     returns
     is-sound-requires
     returns-2
-    entries-size-requires
+    is-sound-requires-2
     returns-3
+    entries-size-requires
+    entries-size-requires-2
+    add-if4
+    returns-4
     put-entries-requires
+    put-entries-requires-2
+    add-t10
     same-length
-    returns-4)
+    returns-5)

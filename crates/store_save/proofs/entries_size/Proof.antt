@@ -62,7 +62,7 @@ returns c =
     let args = c .before .before .before .args in
     let loop = c .before .loop in
     let e : loop .k ≡ args .n = omega arith in
-    rw e at (loop .inv .2)
+    (rw e at (loop .inv .2), rw e at (loop .inv .1))
 
 pub entries-size-spec : {M : Type 1} → statement M
 entries-size-spec =

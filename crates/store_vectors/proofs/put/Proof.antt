@@ -18,12 +18,15 @@ decode-requires c κs = search needs
 number-requires : tie.Need-number-requires
 number-requires c κs = search needs
 
+number-requires-2 : tie.Need-number-requires-2
+number-requires-2 c κs = search needs
+
 array-share-prefix-bitmap : tie.Need-array-share-prefix-bitmap
 array-share-prefix-bitmap c = search needs
 
 slice-aggregate-put : tie.Need-slice-aggregate-put
 slice-aggregate-put c =
-    let decode = c .before .before .before .before .before .decode in
+    let decode = c .before .before .before .before .before .before .decode in
     sym (length-take-le (decode .result) _ (decode .ensures))
 
 put-requires : tie.Need-put-requires
@@ -49,6 +52,7 @@ put-spec =
     slice-aggregate-decode
     decode-requires
     number-requires
+    number-requires-2
     array-share-prefix-bitmap
     slice-aggregate-put
     put-requires

@@ -4,7 +4,7 @@ use super::super::bitmap::packing::{near_tie, nearly_form};
 use super::super::bitmap::{self as masks, damaged};
 use super::super::numbers::{bad_varint, fewest, push_form};
 use super::super::{damage_bytes, Random};
-use super::{form, set, Scale, Store, SLOTS};
+use super::{form, own_slots, owner_of, set, Scale, Store, OWN_SLOTS, SLOTS};
 
 /// Accepted bitmaps that are no forms: {0} with an empty container behind, also in 12 bytes; with an
 /// exception whose part is 0; in eight bits; {256} with b 0; 0 to 31 with descriptor 33; {0} with b2 and
@@ -40,11 +40,15 @@ pub fn overlapping(inner: &[u8], at: usize) -> (Vec<u8>, usize) {
 /// The length of a form of one dense container.
 const OUTER: usize = 41;
 
-/// Lets two slots lie in each other as above, behind all others.
+/// Lets two slots lie in each other as above, behind all others of their owner. Slots of two owners have
+/// the same numbers, each in its own half, and are sound.
 pub fn overlap(store: &mut Store, slots: [usize; 2], inner: &[u8], at: usize) {
     let (bytes, start) = overlapping(inner, at);
-    let begin = store.buffer.len();
-    store.buffer.extend_from_slice(&bytes);
+    let begin = store.half();
+    store.resize(begin + bytes.len());
+    for slot in slots {
+        store.own_bytes_mut(owner_of(slot))[begin..].copy_from_slice(&bytes);
+    }
     store.set(slots[0], begin as u32, OUTER as u32);
     store.set(slots[1], (begin + start) as u32, inner.len() as u32);
 }
@@ -52,7 +56,8 @@ pub fn overlap(store: &mut Store, slots: [usize; 2], inner: &[u8], at: usize) {
 /// Spoils a sound store, mostly so that it is bad; the slot is not empty.
 type Spoil = fn(&mut Random, &mut Store, usize);
 
-pub const SPOILS: [(&str, Spoil); 15] = [
+/// These spoil the half of the slot's owner alone; but a half that is cut is cut for both.
+pub const SPOILS: [(&str, Spoil); 17] = [
     ("one place twice", |random, store, slot| {
         let (start, length) = store.place(slot);
         store.set(other_slot(random, slot), start, length);
@@ -64,15 +69,32 @@ pub const SPOILS: [(&str, Spoil); 15] = [
         overlap(store, slots, &inner, random.between(4, 31));
     }),
     ("starts past the end", |random, store, slot| {
-        let (end, length) = (store.buffer.len() as u32, store.place(slot).1);
+        let (end, length) = (store.half() as u32, store.place(slot).1);
         let starts =
             [end - length + 1, end - 1, end, end + 1, 1 << 31, u32::MAX - length, u32::MAX];
         store.set(slot, random.pick(&starts), length);
     }),
-    ("buffer cut", |random, store, _| {
+    ("half cut", |random, store, slot| {
         let end = |slot: usize| store.place(slot).0 + store.place(slot).1;
-        let last = store.filled().into_iter().map(end).max().unwrap_or(0) as usize;
-        store.buffer.truncate(last - random.between(1, 6));
+        let last = store.own_filled(owner_of(slot)).into_iter().map(end).max().unwrap_or(0);
+        store.resize((last as usize).saturating_sub(random.between(1, 6)));
+    }),
+    ("ends past its half", |random, store, slot| {
+        let form = form(&set(random, Scale::Tiny));
+        if owner_of(slot) == 0 {
+            let past = random.between(1, form.len() - 1);
+            over_the_middle(store, slot, &form, past);
+        } else {
+            into_the_odd_byte(store, slot, &form);
+        }
+    }),
+    ("counted from the buffer", |random, store, slot| {
+        if owner_of(slot) == 0 || random.once_in(3) {
+            let form = form(&set(random, Scale::Tiny));
+            in_the_other_half(store, slot, &form);
+        } else {
+            from_the_buffer(store);
+        }
     }),
     ("end wraps", |random, store, slot| {
         let (start, length) = store.place(slot);
@@ -85,7 +107,7 @@ pub const SPOILS: [(&str, Spoil); 15] = [
         }
     }),
     ("short", |random, store, slot| {
-        let start = random.pick(&[0, store.place(slot).0, store.buffer.len() as u32, u32::MAX]);
+        let start = random.pick(&[0, store.place(slot).0, store.half() as u32, u32::MAX]);
         store.set(slot, start, random.between(1, 5) as u32);
     }),
     ("no form", |random, store, slot| store.append(slot, random.pick(&NOT_FORMS))),
@@ -100,7 +122,7 @@ pub const SPOILS: [(&str, Spoil); 15] = [
     ("bit flipped", |random, store, slot| {
         let (start, length) = store.place(slot);
         let place = start as usize + random.below((length as usize).min(12));
-        store.buffer[place] ^= 1 << random.below(8);
+        store.own_bytes_mut(owner_of(slot))[place] ^= 1 << random.below(8);
     }),
     ("length one off", |random, store, slot| {
         let (start, length) = store.place(slot);
@@ -114,8 +136,11 @@ pub const SPOILS: [(&str, Spoil); 15] = [
         let start = store.place(slot).0;
         store.set(slot, start, u32::MAX - random.below(7) as u32);
     }),
-    ("other numbers", |random, store, _| {
-        store.directory.resize(random.pick(&OTHER_NUMBERS), 0);
+    ("all in one place", |_, store, slot| {
+        let (start, length) = store.place(slot);
+        for other in own_slots(owner_of(slot)) {
+            store.set(other, start, length);
+        }
     }),
     // This one is sound.
     ("empty with a wild start", |random, store, slot| {
@@ -123,10 +148,72 @@ pub const SPOILS: [(&str, Spoil); 15] = [
     }),
 ];
 
-/// Any slot but this one, at times a neighbour.
+/// These spoil what both owners share.
+pub const SHARED_SPOILS: [(&str, Spoil); 2] = [
+    ("other numbers", |random, store, _| {
+        store.directory.resize(random.pick(&OTHER_NUMBERS), 0);
+    }),
+    // The second half begins elsewhere, but where the buffer only gets or loses its odd byte.
+    ("other length", |random, store, _| {
+        let length = store.buffer.len();
+        let fewer = [1, 2, 3].map(|bytes| length.saturating_sub(bytes));
+        let lengths = [fewer[0], fewer[1], fewer[2], length + 1, length + 2];
+        store.buffer.resize(random.pick(&lengths), 0);
+    }),
+];
+
+/// Any other slot of the same owner, at times a neighbour.
 fn other_slot(random: &mut Random, slot: usize) -> usize {
-    let step = if random.once_in(4) { 1 } else { random.between(1, SLOTS - 1) };
-    (slot + step) % SLOTS
+    let step = if random.once_in(4) { 1 } else { random.between(1, OWN_SLOTS - 1) };
+    own_slots(owner_of(slot)).start + (slot + step) % OWN_SLOTS
+}
+
+/// Lets a slot of owner 0 lie over the middle, with so many bytes past it. The form is whole, and owner 1's
+/// forms have moved up.
+pub fn over_the_middle(store: &mut Store, slot: usize, form: &[u8], past: usize) {
+    let half = store.half();
+    let moved = store.own_bytes(1).to_vec();
+    store.resize(half + form.len());
+    store.own_bytes_mut(1)[form.len()..].copy_from_slice(&moved);
+    for other in store.own_filled(1) {
+        let (start, length) = store.place(other);
+        store.set(other, start + form.len() as u32, length);
+    }
+    let start = store.half() + past - form.len();
+    store.buffer[start..start + form.len()].copy_from_slice(form);
+    store.set(slot, start as u32, form.len() as u32);
+}
+
+/// Lets a slot of owner 1 end with the odd byte. The form is whole.
+pub fn into_the_odd_byte(store: &mut Store, slot: usize, form: &[u8]) {
+    store.resize(store.half() + form.len());
+    store.buffer.resize(2 * store.half() + 1, 0);
+    let place = store.buffer.len() - form.len();
+    store.buffer[place..].copy_from_slice(form);
+    store.set(slot, (place - store.half()) as u32, form.len() as u32);
+}
+
+/// Lets a slot lie in the other owner's half, in bytes that are free there, counted from the slot's own
+/// half: for owner 1 the start wraps.
+pub fn in_the_other_half(store: &mut Store, slot: usize, form: &[u8]) {
+    let start = store.half();
+    store.resize(start + form.len());
+    let other = 1 - owner_of(slot);
+    store.own_bytes_mut(other)[start..].copy_from_slice(form);
+    let [own, place] = match other {
+        0 => [store.half(), start],
+        _ => [0, store.half() + start],
+    };
+    store.set(slot, (place as u32).wrapping_sub(own as u32), form.len() as u32);
+}
+
+/// Counts the starts of owner 1, which has forms, from the first byte of the buffer.
+pub fn from_the_buffer(store: &mut Store) {
+    let half = store.half() as u32;
+    for slot in store.own_filled(1) {
+        let (start, length) = store.place(slot);
+        store.set(slot, start + half, length);
+    }
 }
 
 /// An accepted bitmap that is not its set's form.
@@ -160,18 +247,34 @@ fn over_chunks(random: &mut Random) -> Vec<u32> {
     set
 }
 
-/// The sound store, spoiled in one way.
+/// The store, whose forms lie apart within their halves, spoiled in one way: mostly in one half alone.
 pub fn store(random: &mut Random, store: &Store) -> Store {
-    let (_, spoil) = random.pick(&SPOILS);
-    spoil_by(random, store, spoil)
+    if random.once_in(10) {
+        let (_, spoil) = random.pick(&SHARED_SPOILS);
+        let owner = random.below(2);
+        return spoil_by(random, store, owner, spoil);
+    }
+    let filled = store.filled();
+    let owner = match filled.is_empty() {
+        true => random.below(2),
+        false => owner_of(random.pick(&filled)),
+    };
+    half(random, store, owner)
 }
 
-pub fn spoil_by(random: &mut Random, store: &Store, spoil: Spoil) -> Store {
+/// The same, spoiled in this owner's half.
+pub fn half(random: &mut Random, store: &Store, owner: usize) -> Store {
+    let (_, spoil) = random.pick(&SPOILS);
+    spoil_by(random, store, owner, spoil)
+}
+
+pub fn spoil_by(random: &mut Random, store: &Store, owner: usize, spoil: Spoil) -> Store {
     let mut bad = store.clone();
-    if bad.filled().is_empty() {
-        bad.append(random.below(SLOTS), &form(&[0]));
+    if bad.own_filled(owner).is_empty() {
+        let slot = random.below(OWN_SLOTS) + own_slots(owner).start;
+        bad.append(slot, &form(&[0]));
     }
-    let slot = random.pick(&bad.filled());
+    let slot = random.pick(&bad.own_filled(owner));
     spoil(random, &mut bad, slot);
     bad
 }

@@ -1,26 +1,30 @@
-//! Wrong judges of a store, and of slot numbers.
+//! Wrong judges of a store.
 
 use super::super::planted;
 use super::forms::is_form;
-use crate::generate::store::{Entries, NUMBERS, SLOTS};
+use super::owners::{own_slot, Half, Of};
+use crate::generate::store::{own_slots, Entries, NUMBERS, OWN_SLOTS, SLOTS};
 
-pub const FAULTS: [&str; 24] = [
-    "slot-63-refused",
-    "slot-64-accepted",
-    "slot-in-a-byte",
-    "slot-modulo-64",
+pub const FAULTS: [&str; 35] = [
     "slot-after-the-store",
+    "44-after-the-store",
+    "44-after-the-numbers",
+    "other-half-judged-for-44",
     "fewer-numbers-accepted",
     "more-numbers-accepted",
     "asked-slot-judged-alone",
     "asked-slot-not-judged",
     "last-slot-not-judged",
     "first-slot-not-judged",
+    "slots-of-one-owner-judged",
+    "other-half-judged-instead",
     "short-as-empty",
     "wild-start-refused",
     "end-wraps",
+    "place-wraps",
     "end-one-past-accepted",
-    "end-of-the-buffer-refused",
+    "end-of-the-half-refused",
+    "end-past-the-half-accepted",
     "forms-not-judged",
     "version-alone-judged",
     "overlap-not-judged",
@@ -29,71 +33,144 @@ pub const FAULTS: [&str; 24] = [
     "overlap-of-one-byte-missed",
     "one-place-twice-accepted",
     "touching-as-overlap",
+    "other-half-judged",
+    "put-judges-both-halves",
+    "fetch-judges-both-halves",
+    "drop-judges-both-halves",
+    "overlap-across-halves",
+    "wild-start-of-the-other-refused",
+    "short-length-of-the-other-refused",
+    "full-directory-of-the-other-refused",
 ];
 
 /// Faults that are seen in a buffer over 4 GiB alone.
-pub const HUGE_FAULTS: [&str; 2] = ["end-in-32-bits", "buffer-in-32-bits"];
+pub const HUGE_FAULTS: [&str; 4] =
+    ["end-in-32-bits", "half-end-in-32-bits", "half-in-32-bits", "buffer-in-32-bits"];
 
-/// The slot's number, or 40.
-pub fn slot_index(slot: u32) -> Result<usize, u32> {
-    match slot {
-        63 if planted("slot-63-refused") => Err(40),
-        64 if planted("slot-64-accepted") => Ok(0),
-        _ if planted("slot-in-a-byte") && slot % 256 < 64 => Ok(slot as usize % 256),
-        _ if planted("slot-modulo-64") => Ok(slot as usize % SLOTS),
-        0..=63 => Ok(slot as usize),
-        _ => Err(40),
+/// The owner and the slot that are asked for, and what the owner's slots hold: 40, 44, then 42.
+pub fn asked(
+    of: Of,
+    buffer: &[u8],
+    directory: &[u32],
+    owner: u32,
+    slot: u32,
+) -> Result<(usize, usize, Entries), u32> {
+    let own = own_slot(of, owner, slot);
+    if own.is_err() {
+        late(own.err(), buffer, directory, owner, slot)?;
+    }
+    let (owner, slot) = own?;
+    let judged = if planted("other-half-judged-instead") { 1 - owner } else { owner };
+    judge(buffer, directory, judged, Some(slot))?;
+    let both =
+        of.planted("put-judges-both-halves", "fetch-judges-both-halves", "drop-judges-both-halves");
+    if both || planted("other-half-judged") {
+        judge(buffer, directory, 1 - owner, None)?;
+    }
+    beside(directory, buffer.len(), owner)?;
+    Ok((owner, slot, entries(buffer, directory, owner)?))
+}
+
+/// Refusals of the store that come before those of owner and slot.
+fn late(
+    refusal: Option<u32>,
+    buffer: &[u8],
+    directory: &[u32],
+    owner: u32,
+    slot: u32,
+) -> Result<(), u32> {
+    let judged = |owner: u32| match owner {
+        0 | 1 => judge(buffer, directory, owner as usize, None),
+        _ => Ok(()),
+    };
+    match refusal {
+        Some(40) if planted("slot-after-the-store") => judged(owner),
+        Some(44) if planted("44-after-the-store") => judged(owner),
+        Some(44) if planted("other-half-judged-for-44") => judged(slot / OWN_SLOTS as u32),
+        Some(44) if planted("44-after-the-numbers") && directory.len() != NUMBERS => Err(42),
+        _ => Ok(()),
     }
 }
 
-/// The slot that is asked for, and what the slots hold: 40, then 42.
-pub fn asked(buffer: &[u8], directory: &[u32], slot: u32) -> Result<(usize, Entries), u32> {
-    let index = slot_index(slot);
-    if !planted("slot-after-the-store") {
-        index?;
+/// Refusals for what stands in the other owner's numbers.
+fn beside(directory: &[u32], length: usize, owner: usize) -> Result<(), u32> {
+    let places = |owner| own_slots(owner).filter_map(|slot| Place::at(directory, slot));
+    let wild = |place: Place| {
+        let wild = place.length == 0 && place.start as usize > length;
+        let short = (1..6).contains(&place.length);
+        wild && planted("wild-start-of-the-other-refused")
+            || short && planted("short-length-of-the-other-refused")
+    };
+    let full = places(1 - owner).all(|place| place.length > 0);
+    if planted("overlap-across-halves") && across(directory, owner)
+        || places(1 - owner).any(wild)
+        || full && planted("full-directory-of-the-other-refused")
+    {
+        return Err(42);
     }
-    let entries = judge(buffer, directory, index.ok())?;
-    Ok((index?, entries))
+    Ok(())
 }
 
-/// What the slots hold, or 42.
-pub fn judge(buffer: &[u8], directory: &[u32], asked: Option<usize>) -> Result<Entries, u32> {
+/// Whether some place of the owner has numbers that overlap with the other's.
+pub fn across(directory: &[u32], owner: usize) -> bool {
+    let filled = |owner| {
+        let places = own_slots(owner).filter_map(|slot| Place::at(directory, slot));
+        places.filter(|place| place.length > 0)
+    };
+    filled(owner).any(|place| filled(1 - owner).any(|other| place.overlaps(other, false)))
+}
+
+/// Judges an owner's slots.
+pub fn judge(
+    buffer: &[u8],
+    directory: &[u32],
+    owner: usize,
+    asked: Option<usize>,
+) -> Result<(), u32> {
     let fewer = planted("fewer-numbers-accepted") && directory.len() < NUMBERS;
     let more = planted("more-numbers-accepted") && directory.len() > NUMBERS;
     if directory.len() != NUMBERS && !fewer && !more {
         return Err(42);
     }
-    let mut directory = directory.to_vec();
-    directory.resize(NUMBERS, 0);
-    let mut entries = vec![Vec::new(); SLOTS];
+    let half = Half::of(buffer.len(), owner);
     let mut places: Vec<(usize, Place)> = Vec::new();
-    for slot in 0..SLOTS {
-        let place = Place { start: directory[2 * slot], length: directory[2 * slot + 1] };
-        if place.is_empty(buffer.len())? {
+    for slot in own_slots(owner) {
+        let Some(place) = Place::at(directory, slot) else { continue };
+        if place.is_empty(buffer.len())? || !is_judged(slot, asked) {
             continue;
         }
-        if is_judged(slot, asked) {
-            place.judge(buffer)?;
-            if places.iter().any(|&(other, before)| place.overlaps(before, slot - other == 1)) {
-                return Err(42);
-            }
-            places.push((slot, place));
+        place.judge(buffer, half)?;
+        if places.iter().any(|&(other, before)| place.overlaps(before, slot - other == 1)) {
+            return Err(42);
         }
-        let start = (place.start as usize).min(buffer.len());
-        let end = (place.start as usize + place.length as usize).min(buffer.len());
-        entries[slot] = buffer[start..end].to_vec();
+        places.push((slot, place));
     }
-    Ok(entries)
+    Ok(())
 }
 
 fn is_judged(slot: usize, asked: Option<usize>) -> bool {
     match () {
         () if planted("asked-slot-judged-alone") => Some(slot) == asked,
         () if planted("asked-slot-not-judged") => Some(slot) != asked,
-        () if planted("last-slot-not-judged") => slot != SLOTS - 1,
-        () if planted("first-slot-not-judged") => slot != 0,
+        () if planted("last-slot-not-judged") => slot % OWN_SLOTS != OWN_SLOTS - 1,
+        () if planted("first-slot-not-judged") => !slot.is_multiple_of(OWN_SLOTS),
+        () if planted("slots-of-one-owner-judged") => slot < OWN_SLOTS,
         () => true,
     }
+}
+
+/// What an owner's slots hold, in a list for all 64: as much as lies in the buffer.
+pub fn entries(buffer: &[u8], directory: &[u32], owner: usize) -> Result<Entries, u32> {
+    let half = Half::of(buffer.len(), owner);
+    let mut entries = vec![Vec::new(); SLOTS];
+    for slot in own_slots(owner) {
+        let Some(place) = Place::at(directory, slot) else { continue };
+        if !place.is_empty(buffer.len())? {
+            let [start, end] = place.ends(half).map(|end| (end as usize).min(buffer.len()));
+            entries[slot] = buffer[start..end.max(start)].to_vec();
+        }
+    }
+    Ok(entries)
 }
 
 /// Start and length of a slot.
@@ -104,8 +181,23 @@ struct Place {
 }
 
 impl Place {
+    /// The slot's numbers, in a directory that has them.
+    fn at(directory: &[u32], slot: usize) -> Option<Place> {
+        match directory.get(2 * slot..2 * slot + 2)? {
+            &[start, length] => Some(Place { start, length }),
+            _ => None,
+        }
+    }
+
     fn end(self) -> u64 {
         u64::from(self.start) + u64::from(self.length)
+    }
+
+    /// Where the form starts and ends in the buffer.
+    fn ends(self, half: Half) -> [u64; 2] {
+        let start = half.origin as u64 + u64::from(self.start);
+        let start = if planted("place-wraps") { start % (1 << 32) } else { start };
+        [start, start + u64::from(self.length)]
     }
 
     fn is_empty(self, room: usize) -> Result<bool, u32> {
@@ -115,20 +207,27 @@ impl Place {
         Ok(self.length == 0 || planted("short-as-empty") && self.length < 6)
     }
 
-    fn judge(self, buffer: &[u8]) -> Result<(), u32> {
-        let room = buffer.len() as u64;
+    fn judge(self, buffer: &[u8], half: Half) -> Result<(), u32> {
+        let room = half.room() as u64;
         let wrapped = self.end() > u64::from(u32::MAX) && self.end() - (1 << 32) <= room;
-        if planted("end-wraps") && wrapped
-            || planted("end-one-past-accepted") && self.end() == room + 1
-        {
+        let [start, end] = self.ends(half);
+        let most = match () {
+            () if planted("end-past-the-half-accepted") => buffer.len() as u64,
+            () if planted("half-end-in-32-bits") => half.end as u64 % (1 << 32),
+            () if planted("buffer-in-32-bits") => {
+                (half.end as u64).min(buffer.len() as u64 % (1 << 32))
+            }
+            () => half.end as u64,
+        };
+        if planted("end-wraps") && wrapped || planted("end-one-past-accepted") && end == most + 1 {
             return Ok(());
         }
-        let long = planted("end-in-32-bits") && self.end() > u64::from(u32::MAX)
-            || planted("buffer-in-32-bits") && self.end() > room % (1 << 32);
-        if long || self.end() + u64::from(planted("end-of-the-buffer-refused")) > room {
+        let long = planted("end-in-32-bits") && self.end() > u64::from(u32::MAX);
+        let before = start < half.start as u64 && !planted("place-wraps");
+        if long || before || end + u64::from(planted("end-of-the-half-refused")) > most {
             return Err(42);
         }
-        let bytes = &buffer[self.start as usize..self.end() as usize];
+        let bytes = &buffer[start as usize..end as usize];
         let sound = match () {
             () if planted("forms-not-judged") => true,
             () if planted("version-alone-judged") => bytes.len() > 5 && bytes[0] == 1,
