@@ -237,6 +237,27 @@ uint32_t bv_block_field(const uint8_t *schema, size_t schema_len, const uint8_t 
                         int64_t *whole, uint64_t *bits, uint32_t *nanos, size_t *start,
                         size_t *length);
 
+/*
+ * A page: fields as numbers in a lent list, three numbers for each field.
+ *
+ *   first     the kind
+ *   second    BV_YES_NO: 0 or 1. BV_WHOLE, BV_TIME: the whole number or count as int64_t, converted to
+ *             uint64_t. BV_FLOAT, BV_DOUBLE: the stored bits. BV_PLACE: the start. BV_NULL: 0
+ *   third     BV_TIME: the nanoseconds. BV_PLACE: the length. Every other kind: 0
+ */
+
+/*
+ * The fields of the rows from row *place on, as many whole rows as the list takes, row by row and in a
+ * row column by column: a row takes three numbers for each column. *given is the number of rows given,
+ * *place grows by it, and the rest of the list is unchanged. *rows is the number of rows of the block:
+ * where *place is then not below *rows no row is left; else *given is 0 exactly if the list is too short
+ * for one row. *place is any number; where the block has no such row nothing is given and *place stays.
+ * Start with *place 0. Refusals 20 to 24.
+ */
+uint32_t bv_block_page(const uint8_t *schema, size_t schema_len, const uint8_t *block,
+                       size_t block_len, uint32_t *place, uint64_t *list, size_t room,
+                       uint32_t *given, uint32_t *rows);
+
 /* Buckets of a given number of rows. Each call judges the schema and then the whole bucket first. */
 
 /* Whether the bucket is sound. Refusals 20, 30 to 37. */
@@ -248,6 +269,16 @@ uint32_t bv_bucket_field(const uint8_t *schema, size_t schema_len, uint32_t rows
                          const uint8_t *bucket, size_t bucket_len, uint32_t row, uint32_t column,
                          uint8_t *kind, int64_t *whole, uint64_t *bits, uint32_t *nanos,
                          size_t *start, size_t *length);
+
+/*
+ * The fields of one column in the rows from row *place on, as many as the list takes, three numbers for
+ * each row. *given is the number of rows given, *place grows by it, and the rest of the list is unchanged.
+ * *place is any number; where the bucket has no such row nothing is given and *place stays. Start with
+ * *place 0. Refusals 20, 30 to 37, then 25 for the column.
+ */
+uint32_t bv_bucket_page(const uint8_t *schema, size_t schema_len, uint32_t rows,
+                        const uint8_t *bucket, size_t bucket_len, uint32_t column, uint32_t *place,
+                        uint64_t *list, size_t room, uint32_t *given);
 
 #ifdef __cplusplus
 }
