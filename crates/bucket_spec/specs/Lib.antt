@@ -1,4 +1,5 @@
 pub mod Piece
 pub mod Bucket
+pub mod Page
 pub mod Read
 pub mod Examples
