@@ -29,7 +29,7 @@ pub fn tag_of(s: &[u8], tags: usize, i: usize) -> u32
 pub fn has_bitmap(s: &[u8], has: usize, i: usize, tag: u32) -> bool
     ensures { λ r. ⌜ r ≡ both (eqb (lowBit (now (s .entry)) has i) 1) (not (eqb tag 3)) ⌝ }
 {
-    if bucket_piece::bit_at(s, has, i) == 1 {
+    if numbers::bit_at(s, has, i) == 1 {
         return tag != 3;
     }
     false

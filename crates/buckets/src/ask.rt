@@ -25,7 +25,7 @@ fn is_null(s: &[u8], tag: u32, mapped: bool, nulls: usize, r: usize) -> bool
         return true;
     }
     if mapped {
-        return bucket_piece::bit_at(s, nulls, r) == 1;
+        return numbers::bit_at(s, nulls, r) == 1;
     }
     false
 }

@@ -180,6 +180,19 @@ pub fn low_bit(s: &[u8], at: usize, i: usize) -> u8
     (b >> shift(i)) % 2
 }
 
+// Bit i of the bits from byte `at` on; past the bytes it is 0.
+pub fn bit_at(s: &[u8], at: usize, i: usize) -> u8
+    ensures { λ r. ⌜ (r ≡ lowBit (now (s .entry)) at i) × (r < 2) ⌝ }
+{
+    if s.len() <= at {
+        return 0;
+    }
+    if s.len() - at <= i / 8 {
+        return 0;
+    }
+    low_bit(s, at, i)
+}
+
 // Whether the bits that fill n bits up to a byte are 0.
 pub fn spare_zero(s: &[u8], at: usize, n: usize) -> bool
     requires { ⌜ (at + ceil8 n ≤ length (now s)) × (n ≤ 1048576) ⌝ }

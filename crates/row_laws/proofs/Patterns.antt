@@ -2,6 +2,7 @@
 use Prim.Native.Nat.{_+_, _/_, ℕ, _*_, _%_, _<_, _≤_}
 use mathlib.Core.Path.{_≡_, refl, sym, ap, subst, _∙_}
 use mathlib.Core.Bool.{Bool, true, false, not}
+use mathlib.Core.List.{List, [], _∷_}
 use lib.Dec.{T}
 use lib.Ieee.Compare.{differs-from-itself, nan-differs}
 use native.Mathlib.Omega.{arith}
@@ -11,6 +12,7 @@ use borrow.Author.Tests.{lt-ltb, le-ltb}
 use Rattle.row_spec.specs.declared.Field.{Field}
 use Rattle.row_spec.specs.Value.{pattern, single, double}
 use Rattle.row_spec.specs.Answer.{shown}
+use Rattle.row_spec.specs.Page.{listed}
 use Rattle.row_spec.specs.declared.Field.the-variants.{F32, NanF32, F64, NanF64}
 use Rattle.common.specs.Outcome.{pick}
 
@@ -33,25 +35,36 @@ module _ (f : Format) (n : ℕ) where
     unfolding pattern
     good-pattern h = sym (ap (λ (t : Bool). pick t (bad n) (good (ofBits f n))) (no-nan h))
 
--- The answer to a pattern has exactly the stored bits: once for every format, whatever tells the bits of its two cases.
-pub stored-bits : (f : Format) (bits : ℕ → Field) (float : Float → Field) (of : Field → ℕ)
-    → ((n : ℕ) → of (bits n) ≡ n)
-    → ((x : Float) → of (float x) ≡ toBits f x)
-    → (n : ℕ) → n < 2 * top f → of (pattern f bits float n) ≡ n
+-- The answer to a pattern has exactly the stored bits: once for every format, whatever tells of its two cases what g tells of bits.
+pub stored-bits : {A : Type 0} (f : Format) (bits : ℕ → Field) (float : Float → Field) (of : Field → A) (g : ℕ → A)
+    → ((n : ℕ) → of (bits n) ≡ g n)
+    → ((x : Float) → of (float x) ≡ g (toBits f x))
+    → (n : ℕ) → n < 2 * top f → of (pattern f bits float n) ≡ g n
 unfolding pattern
-stored-bits f bits float of same writes n h = by-test (nanBits f n) refl
+stored-bits f bits float of g same writes n h = by-test (nanBits f n) refl
   where
-    by-test : (t : Bool) → nanBits f n ≡ t → of (pick t (bits n) (float (ofBits f n))) ≡ n
+    by-test : (t : Bool) → nanBits f n ≡ t → of (pick t (bits n) (float (ofBits f n))) ≡ g n
     by-test true e = same n
-    by-test false e = writes (ofBits f n) ∙ toBits-ofBits f n h (subst (λ (b : Bool). T (not b)) (sym (sym (nanBits-is f n) ∙ e)) tt)
+    by-test false e =
+        let number = subst (λ (b : Bool). T (not b)) (sym (sym (nanBits-is f n) ∙ e)) tt in
+        writes (ofBits f n) ∙ ap g (toBits-ofBits f n h number)
 
 pub single-bits : (n : ℕ) → n < 2 * top binary32 → shown (single n) .bits ≡ n
 unfolding shown
-single-bits n h = stored-bits binary32 NanF32 F32 (λ x. shown x .bits) (λ m. refl) (λ x. refl) n h
+single-bits n h = stored-bits binary32 NanF32 F32 (λ x. shown x .bits) (λ m. m) (λ m. refl) (λ x. refl) n h
 
 pub double-bits : (n : ℕ) → n < 2 * top binary64 → shown (double n) .bits ≡ n
 unfolding shown
-double-bits n h = stored-bits binary64 NanF64 F64 (λ x. shown x .bits) (λ m. refl) (λ x. refl) n h
+double-bits n h = stored-bits binary64 NanF64 F64 (λ x. shown x .bits) (λ m. m) (λ m. refl) (λ x. refl) n h
+
+-- the same in the three numbers of a list
+pub single-listed : (n : ℕ) → n < 2 * top binary32 → listed (single n) ≡ 3 ∷ n ∷ 0 ∷ []
+unfolding listed
+single-listed n h = stored-bits binary32 NanF32 F32 listed (λ m. 3 ∷ m ∷ 0 ∷ []) (λ m. refl) (λ x. refl) n h
+
+pub double-listed : (n : ℕ) → n < 2 * top binary64 → listed (double n) ≡ 4 ∷ n ∷ 0 ∷ []
+unfolding listed
+double-listed n h = stored-bits binary64 NanF64 F64 listed (λ m. 4 ∷ m ∷ 0 ∷ []) (λ m. refl) (λ x. refl) n h
 
 -- ---- from a float back to its bits: x != x tells a NaN
 pub may-write : (x : Float) → ne x x ≡ false → T (not (isNan x))

@@ -1,0 +1,30 @@
+use mathlib.Core.Path.{_≡_, refl, sym, ap, _∙_}
+use Prim.Native.Nat.{ℕ, zero, suc, _+_, _-_, _*_, _≤_, _<_}
+use native.Mathlib.Omega.{arith}
+use lib.ListN.{length, getD}
+use borrow.Author.Needs.{needs}
+use Rattle.value_list.proofs.field_cell.Statement.{statement}
+use Rattle.value_list.proofs.field_cell.Tie as tie
+use Rattle.value_list.proofs.field_cell.Reads as reads
+use Rattle.value_list.proofs.field_cell.Lts as lts
+use Rattle.value_list.proofs.cell_at.Reads as cell-at-reads
+use Rattle.value_list.proofs.cell_of.Reads as cell-of-reads
+
+-- src/lib.rt:182:9
+cell-of-requires : tie.Need-cell-of-requires
+cell-of-requires c κs = search needs
+
+-- src/lib.rt:182:9
+returns : tie.Need-returns
+returns c = ?
+
+-- src/lib.rt:184:5
+cell-at-requires : tie.Need-cell-at-requires
+cell-at-requires c κs = search needs
+
+-- src/lib.rt:178:1
+returns-2 : tie.Need-returns-2
+returns-2 c = ?
+
+pub field-cell-spec : {M : Type 1} → statement M
+field-cell-spec = tie.close (tie.spec cell-of-requires returns cell-at-requires returns-2)

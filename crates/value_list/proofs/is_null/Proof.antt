@@ -1,0 +1,25 @@
+use mathlib.Core.Path.{_≡_, refl, sym, ap, _∙_}
+use Prim.Native.Nat.{ℕ, zero, suc, _+_, _-_, _*_, _≤_, _<_}
+use native.Mathlib.Omega.{arith}
+use lib.ListN.{length, getD}
+use borrow.Author.Needs.{needs}
+use Rattle.value_list.proofs.is_null.Statement.{statement}
+use Rattle.value_list.proofs.is_null.Tie as tie
+use Rattle.value_list.proofs.is_null.Reads as reads
+use Rattle.value_list.proofs.is_null.Lts as lts
+use Rattle.numbers.proofs.bit_at.Reads as bit-at-reads
+
+-- src/lib.rt:172:16
+bit-at-requires : tie.Need-bit-at-requires
+bit-at-requires c κs = search needs
+
+-- src/lib.rt:172:9
+returns : tie.Need-returns
+returns c = ?
+
+-- src/lib.rt:168:1
+returns-2 : tie.Need-returns-2
+returns-2 c = search needs
+
+pub is-null-spec : {M : Type 1} → statement M
+is-null-spec = tie.close (tie.spec bit-at-requires returns returns-2)

@@ -1,0 +1,99 @@
+-- By what was read as the length: with room, the place behind it. Assumes nothing.
+use borrow.Author.Tests.{leb-true}
+use mathlib.Core.Bool.{true}
+use Rattle.common.proofs.Outcomes.{clash}
+use Rattle.row_spec.specs.Value.{sizedOf}
+use Rattle.value_list.proofs.Stored.{cut-holds, bad-holds, place-holds}
+use mathlib.Core.Path.{_≡_, refl, sym, ap, _∙_}
+use Prim.Native.Nat.{ℕ, zero, suc, _+_, _-_, _*_, _≤_, _<_}
+use native.Mathlib.Omega.{arith}
+use lib.ListN.{length, getD}
+use borrow.Author.Needs.{needs}
+use Rattle.value_list.proofs.place_cell.Statement.{statement}
+use Rattle.value_list.proofs.place_cell.Tie as tie
+use Rattle.value_list.proofs.place_cell.Reads as reads
+use Rattle.value_list.proofs.place_cell.Lts as lts
+use Rattle.numbers.proofs.has.Reads as has-reads
+use Rattle.value_list.proofs.cell_of.Reads as cell-of-reads
+
+-- src/lib.rt:89:29
+enum-told : tie.Need-enum-told
+enum-told c = search needs
+
+-- src/lib.rt:89:29
+cell-of-requires : tie.Need-cell-of-requires
+cell-of-requires c κs = search needs
+
+-- src/lib.rt:90:30
+enum-told-2 : tie.Need-enum-told-2
+enum-told-2 c = search needs
+
+-- src/lib.rt:90:30
+cell-of-requires-2 : tie.Need-cell-of-requires-2
+cell-of-requires-2 c κs = search needs
+
+-- src/lib.rt:91:24
+enum-known-r : tie.Need-enum-known-r
+enum-known-r c = search needs
+
+-- src/lib.rt:92:23
+cast-len : tie.Need-cast-len
+cast-len c = search needs
+
+-- src/lib.rt:93:16
+has-requires : tie.Need-has-requires
+has-requires c κs = search needs
+
+-- src/lib.rt:94:48
+cast-cell-of : tie.Need-cast-cell-of
+cast-cell-of c = search needs
+
+-- src/lib.rt:94:58
+add-cell-of : tie.Need-add-cell-of
+add-cell-of c = omega (arith, leb-true (c .before .before .before .r .given .0 .1 .0 + c .before .before .before .r .given .0 .0) (length (c .before .before .before .before .before .before .args .s .now)) (sym (c .before .has .ensures) ∙ c .if1 .taken))
+
+-- src/lib.rt:94:17
+cell-of-requires-3 : tie.Need-cell-of-requires-3
+cell-of-requires-3 c κs = search needs
+
+-- src/lib.rt:94:17
+returns : tie.Need-returns
+returns c = λ least. rw (c .before .before .before .before .r .given .1) (place-holds (c .before .before .before .before .before .before .before .args .s .now) least _ _ _ _ (λ e. c .cell-of3 .ensures))
+
+-- src/lib.rt:96:13
+cell-of-requires-4 : tie.Need-cell-of-requires-4
+cell-of-requires-4 c κs = search needs
+
+-- src/lib.rt:85:1
+returns-2 : tie.Need-returns-2
+unfolding sizedOf
+returns-2 c = λ least. rw (c .before .enum-told .given .1) (cut-holds _)
+
+-- src/lib.rt:85:1
+returns-3 : tie.Need-returns-3
+unfolding sizedOf
+returns-3 c = λ least. rw (c .before .enum-told2 .given .1) (bad-holds _)
+
+-- src/lib.rt:85:1
+returns-4 : tie.Need-returns-4
+returns-4 c = λ least. rw (c .before .before .before .before .r .given .1) (place-holds (c .before .before .before .before .before .before .before .args .s .now) least _ _ _ _ (λ e. clash (cc)))
+
+pub place-cell-spec : {M : Type 1} → statement M
+place-cell-spec =
+    tie.close
+    (tie.spec
+    enum-told
+    cell-of-requires
+    enum-told-2
+    cell-of-requires-2
+    enum-known-r
+    cast-len
+    has-requires
+    cast-cell-of
+    add-cell-of
+    cell-of-requires-3
+    returns
+    cell-of-requires-4
+    returns-2
+    returns-3
+    returns-4)

@@ -1,0 +1,64 @@
+use mathlib.Core.Path.{_≡_, refl, sym, ap, _∙_}
+use Prim.Native.Nat.{ℕ, zero, suc, _+_, _-_, _*_, _≤_, _<_}
+use native.Mathlib.Omega.{arith}
+use lib.ListN.{length, getD}
+use borrow.Author.Needs.{needs}
+use Rattle.value_list.proofs.put_cell.Statement.{statement}
+use Rattle.value_list.proofs.put_cell.Tie as tie
+use Rattle.value_list.proofs.put_cell.Reads as reads
+use Rattle.value_list.proofs.put_cell.Lts as lts
+
+-- src/lib.rt:192:5
+mul-list : tie.Need-mul-list
+mul-list c = search needs
+
+-- src/lib.rt:192:5
+slice-write-list : tie.Need-slice-write-list
+slice-write-list c = search needs
+
+-- src/lib.rt:193:10
+add-list : tie.Need-add-list
+add-list c = search needs
+
+-- src/lib.rt:193:5
+mul-list-2 : tie.Need-mul-list-2
+mul-list-2 c = search needs
+
+-- src/lib.rt:193:5
+slice-write-list-2 : tie.Need-slice-write-list-2
+slice-write-list-2 c = ?
+
+-- src/lib.rt:194:10
+add-list-2 : tie.Need-add-list-2
+add-list-2 c = search needs
+
+-- src/lib.rt:194:5
+mul-list-3 : tie.Need-mul-list-3
+mul-list-3 c = search needs
+
+-- src/lib.rt:194:5
+slice-write-list-3 : tie.Need-slice-write-list-3
+slice-write-list-3 c = ?
+
+-- src/lib.rt:188:1
+same-length : tie.Need-same-length
+same-length c = search needs
+
+-- src/lib.rt:188:1
+returns : tie.Need-returns
+returns c = ?
+
+pub put-cell-spec : {M : Type 1} → statement M
+put-cell-spec =
+    tie.close
+    (tie.spec
+    mul-list
+    slice-write-list
+    add-list
+    mul-list-2
+    slice-write-list-2
+    add-list-2
+    mul-list-3
+    slice-write-list-3
+    same-length
+    returns)

@@ -1,0 +1,64 @@
+-- A first byte below 128 is the whole number; else the number is read. Assumes nothing.
+use Rattle.row_laws.proofs.Varints.{one-group}
+use mathlib.Core.Path.{_≡_, refl, sym, ap, _∙_}
+use Prim.Native.Nat.{ℕ, zero, suc, _+_, _-_, _*_, _≤_, _<_}
+use native.Mathlib.Omega.{arith}
+use lib.ListN.{length, getD}
+use borrow.Author.Needs.{needs}
+use Rattle.value_list.proofs.sized_cell.Statement.{statement}
+use Rattle.value_list.proofs.sized_cell.Tie as tie
+use Rattle.value_list.proofs.sized_cell.Reads as reads
+use Rattle.value_list.proofs.sized_cell.Lts as lts
+use Rattle.numbers.proofs.varint.Reads as varint-reads
+use Rattle.numbers.proofs.wide.Reads as wide-reads
+use Rattle.value_list.proofs.place_cell.Reads as place-cell-reads
+
+-- src/lib.rt:106:22
+shared-slice-read-wide : tie.Need-shared-slice-read-wide
+shared-slice-read-wide c = search needs
+
+-- src/lib.rt:106:13
+wide-requires : tie.Need-wide-requires
+wide-requires c κs = search needs
+
+-- src/lib.rt:108:49
+cast-t9 : tie.Need-cast-t9
+cast-t9 c = search needs
+
+-- src/lib.rt:108:59
+add-t10 : tie.Need-add-t10
+add-t10 c = search needs
+
+-- src/lib.rt:108:13
+place-cell-requires : tie.Need-place-cell-requires
+place-cell-requires c κs = search needs
+
+-- src/lib.rt:108:13
+returns : tie.Need-returns
+returns c = λ least. rw (one-group (c .before .before .before .before .before .before .args .s .now) (c .before .before .before .before .before .before .args .at) (c .before .before .before .before .if1 .taken) (omega (arith, c .before .before .wide .ensures .0)), ← c .before .before .wide .ensures .0) (c .place-cell .ensures least)
+
+-- src/lib.rt:111:19
+varint-requires : tie.Need-varint-requires
+varint-requires c κs = search needs
+
+-- src/lib.rt:111:5
+place-cell-requires-2 : tie.Need-place-cell-requires-2
+place-cell-requires-2 c κs = search needs
+
+-- src/lib.rt:102:1
+returns-2 : tie.Need-returns-2
+returns-2 c = λ least. rw (← c .before .varint .ensures) (c .place-cell2 .ensures least)
+
+pub sized-cell-spec : {M : Type 1} → statement M
+sized-cell-spec =
+    tie.close
+    (tie.spec
+    shared-slice-read-wide
+    wide-requires
+    cast-t9
+    add-t10
+    place-cell-requires
+    returns
+    varint-requires
+    place-cell-requires-2
+    returns-2)

@@ -1,0 +1,75 @@
+-- With room for both, the count and four bytes of nanoseconds. Assumes nothing.
+use borrow.Author.Tests.{leb-true}
+use Rattle.common.proofs.Outcomes.{clash}
+use Rattle.row_spec.specs.Value.{storedAt}
+use Rattle.value_list.proofs.Stored.{room-holds}
+use mathlib.Core.Path.{_≡_, refl, sym, ap, _∙_}
+use Prim.Native.Nat.{ℕ, zero, suc, _+_, _-_, _*_, _≤_, _<_}
+use native.Mathlib.Omega.{arith}
+use lib.ListN.{length, getD}
+use borrow.Author.Needs.{needs}
+use Rattle.value_list.proofs.time_fixed_cell.Statement.{statement}
+use Rattle.value_list.proofs.time_fixed_cell.Tie as tie
+use Rattle.value_list.proofs.time_fixed_cell.Reads as reads
+use Rattle.value_list.proofs.time_fixed_cell.Lts as lts
+use Rattle.numbers.proofs.has.Reads as has-reads
+use Rattle.numbers.proofs.word.Reads as word-reads
+use Rattle.value_list.proofs.cell_of.Reads as cell-of-reads
+use Rattle.value_list.proofs.nanos_cell.Reads as nanos-cell-reads
+
+-- src/lib.rt:139:8
+has-requires : tie.Need-has-requires
+has-requires c κs = search needs
+
+-- src/lib.rt:140:30
+add-word : tie.Need-add-word
+add-word c = omega (arith, leb-true (c .before .before .before .args .at + 12) (length (c .before .before .before .args .s .now)) (sym (c .before .has .ensures) ∙ c .if1 .taken))
+
+-- src/lib.rt:140:17
+word-requires : tie.Need-word-requires
+word-requires c κs = (omega (arith, leb-true (c .before .before .before .args .at + 12) (length (c .before .before .before .args .s .now)) (sym (c .before .has .ensures) ∙ c .if1 .taken)), search needs)
+
+-- src/lib.rt:140:17
+cast-n : tie.Need-cast-n
+cast-n c = search needs
+
+-- src/lib.rt:141:27
+word-requires-2 : tie.Need-word-requires-2
+word-requires-2 c κs = (omega (arith, leb-true (c .before .before .before .before .args .at + 12) (length (c .before .before .before .before .args .s .now)) (sym (c .before .before .has .ensures) ∙ c .before .if1 .taken)), search needs)
+
+-- src/lib.rt:141:66
+add-t7 : tie.Need-add-t7
+add-t7 c = omega (arith, leb-true (c .before .before .before .before .before .args .at + 12) (length (c .before .before .before .before .before .args .s .now)) (sym (c .before .before .before .has .ensures) ∙ c .before .before .if1 .taken))
+
+-- src/lib.rt:141:9
+nanos-cell-requires : tie.Need-nanos-cell-requires
+nanos-cell-requires c κs = search needs
+
+-- src/lib.rt:141:9
+returns : tie.Need-returns
+unfolding storedAt
+returns c = room-holds _ (c .before .before .before .before .before .before .args .s .now) (c .before .before .before .before .before .before .args .at) 12 _ (λ e. rw (← c .before .word2 .ensures .0, ← c .before .before .word .ensures .0) (c .nanos-cell .ensures))
+
+-- src/lib.rt:143:5
+cell-of-requires : tie.Need-cell-of-requires
+cell-of-requires c κs = search needs
+
+-- src/lib.rt:136:1
+returns-2 : tie.Need-returns-2
+unfolding storedAt
+returns-2 c = room-holds _ (c .before .before .before .before .args .s .now) (c .before .before .before .before .args .at) 12 _ (λ e. clash (cc))
+
+pub time-fixed-cell-spec : {M : Type 1} → statement M
+time-fixed-cell-spec =
+    tie.close
+    (tie.spec
+    has-requires
+    add-word
+    word-requires
+    cast-n
+    word-requires-2
+    add-t7
+    nanos-cell-requires
+    returns
+    cell-of-requires
+    returns-2)

@@ -1,0 +1,66 @@
+-- With room for the count, by the nanoseconds behind it. Assumes nothing.
+use borrow.Author.Tests.{leb-true}
+use Rattle.common.proofs.Outcomes.{clash}
+use Rattle.row_spec.specs.Value.{storedAt}
+use Rattle.value_list.proofs.Stored.{room-holds}
+use mathlib.Core.Path.{_≡_, refl, sym, ap, _∙_}
+use Prim.Native.Nat.{ℕ, zero, suc, _+_, _-_, _*_, _≤_, _<_}
+use native.Mathlib.Omega.{arith}
+use lib.ListN.{length, getD}
+use borrow.Author.Needs.{needs}
+use Rattle.value_list.proofs.time_varint_cell.Statement.{statement}
+use Rattle.value_list.proofs.time_varint_cell.Tie as tie
+use Rattle.value_list.proofs.time_varint_cell.Reads as reads
+use Rattle.value_list.proofs.time_varint_cell.Lts as lts
+use Rattle.numbers.proofs.has.Reads as has-reads
+use Rattle.numbers.proofs.varint.Reads as varint-reads
+use Rattle.numbers.proofs.word.Reads as word-reads
+use Rattle.value_list.proofs.cell_of.Reads as cell-of-reads
+use Rattle.value_list.proofs.nanos_cell.Reads as nanos-cell-reads
+
+-- src/lib.rt:129:8
+has-requires : tie.Need-has-requires
+has-requires c κs = search needs
+
+-- src/lib.rt:130:27
+word-requires : tie.Need-word-requires
+word-requires c κs = (leb-true (c .before .before .before .args .at + 8) (length (c .before .before .before .args .s .now)) (sym (c .before .has .ensures) ∙ c .if1 .taken), search needs)
+
+-- src/lib.rt:130:58
+add-varint : tie.Need-add-varint
+add-varint c = omega (arith, leb-true (c .before .before .before .before .args .at + 8) (length (c .before .before .before .before .args .s .now)) (sym (c .before .before .has .ensures) ∙ c .before .if1 .taken))
+
+-- src/lib.rt:130:48
+varint-requires : tie.Need-varint-requires
+varint-requires c κs = search needs
+
+-- src/lib.rt:130:9
+nanos-cell-requires : tie.Need-nanos-cell-requires
+nanos-cell-requires c κs = search needs
+
+-- src/lib.rt:130:9
+returns : tie.Need-returns
+unfolding storedAt
+returns c = room-holds _ (c .before .before .before .before .before .before .args .s .now) (c .before .before .before .before .before .before .args .at) 8 _ (λ e. rw (← c .before .before .word .ensures .0, ← c .before .varint .ensures) (c .nanos-cell .ensures))
+
+-- src/lib.rt:132:5
+cell-of-requires : tie.Need-cell-of-requires
+cell-of-requires c κs = search needs
+
+-- src/lib.rt:126:1
+returns-2 : tie.Need-returns-2
+unfolding storedAt
+returns-2 c = room-holds _ (c .before .before .before .before .args .s .now) (c .before .before .before .before .args .at) 8 _ (λ e. clash (cc))
+
+pub time-varint-cell-spec : {M : Type 1} → statement M
+time-varint-cell-spec =
+    tie.close
+    (tie.spec
+    has-requires
+    word-requires
+    add-varint
+    varint-requires
+    nanos-cell-requires
+    returns
+    cell-of-requires
+    returns-2)

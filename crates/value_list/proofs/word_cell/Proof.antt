@@ -1,0 +1,57 @@
+-- With room, the number of the bytes; without it nothing is promised. Assumes nothing.
+use borrow.Author.Tests.{leb-true}
+use Rattle.row_spec.specs.Value.{wordAt}
+use Rattle.common.proofs.Outcomes.{clash}
+use Rattle.value_list.specs.Cell.{cellOf}
+use mathlib.Core.Path.{_≡_, refl, sym, ap, _∙_}
+use Prim.Native.Nat.{ℕ, zero, suc, _+_, _-_, _*_, _≤_, _<_}
+use native.Mathlib.Omega.{arith}
+use lib.ListN.{length, getD}
+use borrow.Author.Needs.{needs}
+use Rattle.value_list.proofs.word_cell.Statement.{statement}
+use Rattle.value_list.proofs.word_cell.Tie as tie
+use Rattle.value_list.proofs.word_cell.Reads as reads
+use Rattle.value_list.proofs.word_cell.Lts as lts
+use Rattle.numbers.proofs.has.Reads as has-reads
+use Rattle.numbers.proofs.word.Reads as word-reads
+use Rattle.value_list.proofs.cell_of.Reads as cell-of-reads
+
+-- src/lib.rt:56:8
+has-requires : tie.Need-has-requires
+has-requires c κs = search needs
+
+-- src/lib.rt:57:30
+word-requires : tie.Need-word-requires
+word-requires c κs = (leb-true (c .before .before .before .args .at + c .before .before .before .args .w) (length (c .before .before .before .args .s .now)) (sym (c .before .has .ensures) ∙ c .if1 .taken), search needs)
+
+-- src/lib.rt:57:54
+add-cell-of : tie.Need-add-cell-of
+add-cell-of c = omega (arith, leb-true (c .before .before .before .before .args .at + c .before .before .before .before .args .w) (length (c .before .before .before .before .args .s .now)) (sym (c .before .before .has .ensures) ∙ c .before .if1 .taken))
+
+-- src/lib.rt:57:9
+cell-of-requires : tie.Need-cell-of-requires
+cell-of-requires c κs = search needs
+
+-- src/lib.rt:57:9
+returns : tie.Need-returns
+returns c = λ e. (c .cell-of .ensures ∙ ap (λ (n : ℕ). cellOf (c .before .before .before .before .before .args .kind) n 0 (c .before .before .before .before .before .args .at + c .before .before .before .before .before .args .w)) (c .before .word .ensures .0), rw (← c .before .word .ensures .0) (c .before .word .ensures .1))
+
+-- src/lib.rt:59:5
+cell-of-requires-2 : tie.Need-cell-of-requires-2
+cell-of-requires-2 c κs = search needs
+
+-- src/lib.rt:52:1
+returns-2 : tie.Need-returns-2
+returns-2 c = λ e. clash (cc)
+
+pub word-cell-spec : {M : Type 1} → statement M
+word-cell-spec =
+    tie.close
+    (tie.spec
+    has-requires
+    word-requires
+    add-cell-of
+    cell-of-requires
+    returns
+    cell-of-requires-2
+    returns-2)
