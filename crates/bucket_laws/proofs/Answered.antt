@@ -27,7 +27,7 @@ use Rattle.bucket_spec.specs.Piece.{valueOf}
 use Rattle.bucket_spec.specs.Bucket.{Judged, colOf, tagOf, mapped, pieceOf, tagAllowed, isNull, answer, bucket}
 use Rattle.bucket_spec.specs.Bucket.{bucketField}
 use Rattle.bucket_laws.specs.Shown.{Among, columnAt, tagAt, hasNulls, constAt, tableAt, nullsAt, cellsAt, NullAt}
-use Rattle.bucket_laws.specs.Shown.{liveBefore}
+use Rattle.bucket_laws.specs.Shown.{replyAt, liveBefore}
 use Rattle.bucket_laws.specs.Shown.{PlainAt, ConstAt, DictAt, Counts, Answered, Stored}
 use Rattle.bucket_laws.proofs.Runs.{run-value, run-nth}
 use Rattle.bucket_laws.proofs.Width.{index-width}
@@ -98,8 +98,8 @@ module _ (cols : List Column) (n : ℕ) (s : List ℕ) (b : Judged) (i : ℕ) wh
       by-map r m q = rw m (live-same s (nullsAt cols n s b i) r q)
 
 -- ---- one row and one column of an accepted bucket
-module _ (d : List ℕ) (cols : List Column) (n : ℕ) (s : List ℕ) (b : Judged) (r i : ℕ)
-    (read : schema d ≡ found cols) (accepted : bucket cols n s ≡ found b) (row : r < n) (column : i < length cols) where
+module _ (cols : List Column) (n : ℕ) (s : List ℕ) (b : Judged) (r i : ℕ) (accepted : bucket cols n s ≡ found b)
+    (row : r < n) (column : i < length cols) where
   abbrev col : Column
   col = columnAt cols n s b i
 
@@ -148,9 +148,12 @@ module _ (d : List ℕ) (cols : List Column) (n : ℕ) (s : List ℕ) (b : Judge
   cells-here = order-reads _ _ _ _ _ (laid .cells) i column
 
   -- what the question comes to
-  asked : bucketField d n s r i ≡ pick isNullHere (found Null) (valueOf s (col .ty) tag map r const table nulls cells)
-  unfolding bucketField answer need colOf tagOf
-  asked = rw (read, accepted, lt-ltb r n row, lt-ltb i (length cols) column)
+  asked : replyAt cols n s b i r ≡ pick isNullHere (found Null) (valueOf s (col .ty) tag map r const table nulls cells)
+  unfolding answer need colOf tagOf
+  asked = rw (lt-ltb r n row, lt-ltb i (length cols) column)
+
+  abbrev Replied : Type 0
+  Replied = Answered (replyAt cols n s b i r) cols n s b r i
 
   -- ---- a null row
   module _ (e : isNullHere ≡ true) where
@@ -168,7 +171,7 @@ module _ (d : List ℕ) (cols : List Column) (n : ℕ) (s : List ℕ) (b : Judge
     is-null : NullAt cols n s b i r
     is-null = ⊎-elim (λ w. inl w) (λ w. inr (mapped-has cols n s b i (w .0), w .1)) why
 
-    answered-null : Answered d cols n s b r i
+    answered-null : Replied
     unfolding inside
     answered-null =
         record {
@@ -197,7 +200,7 @@ module _ (d : List ℕ) (cols : List Column) (n : ℕ) (s : List ℕ) (b : Judge
 
     -- the value that was read, and what its tag says of it
     answer-with : (f : Field) (at m j : ℕ) → Among s (col .ty) at m j f → Value f → (tag ≡ 0 → PlainAt cols n s b i r f)
-        → (tag ≡ 1 → ConstAt cols n s b i f) → (tag ≡ 2 → DictAt cols n s b i r f) → Answered d cols n s b r i
+        → (tag ≡ 1 → ConstAt cols n s b i f) → (tag ≡ 2 → DictAt cols n s b i r f) → Replied
     answer-with f at m j a v p c x =
         let some : f ≡ Null → ⊥ = value-some s f (a .next) true (a .place) (col .ty) (a .reads) in
         record {
@@ -215,7 +218,7 @@ module _ (d : List ℕ) (cols : List Column) (n : ℕ) (s : List ℕ) (b : Judge
           };
         }
 
-    answered-plain : tag ≡ 0 → Answered d cols n s b r i
+    answered-plain : tag ≡ 0 → Replied
     unfolding pieceOf colOf tagOf
     answered-plain q =
         let all = plain-read s col tag map n table nulls cells _ (cells-here .1) q in
@@ -223,7 +226,7 @@ module _ (d : List ℕ) (cols : List Column) (n : ℕ) (s : List ℕ) (b : Judge
         let v = value-plain s (col .ty) tag map r const table nulls cells (x .0) q (run-nth s _ _ _ _ (x .0) (x .1)) in
         answer-with (x .0) _ _ _ (x .1) v (λ p. x .1) (λ p. absurd (omega arith)) (λ p. absurd (omega arith))
 
-    answered-const : tag ≡ 1 → Answered d cols n s b r i
+    answered-const : tag ≡ 1 → Replied
     unfolding pieceOf colOf tagOf
     answered-const q =
         let all = const-read s col tag map n _ _ const _ (const-here .1) q in
@@ -231,7 +234,7 @@ module _ (d : List ℕ) (cols : List Column) (n : ℕ) (s : List ℕ) (b : Judge
         let v = value-const s (col .ty) tag map r const table nulls cells (x .0) q (run-nth s _ _ _ _ (x .0) (x .1)) in
         answer-with (x .0) _ _ _ (x .1) v (λ p. absurd (omega arith)) (λ p. x .1) (λ p. absurd (omega arith))
 
-    answered-dict : tag ≡ 2 → Answered d cols n s b r i
+    answered-dict : tag ≡ 2 → Replied
     unfolding pieceOf colOf tagOf
     answered-dict q =
         let t = table-read s col tag map n _ _ table _ (table-here .1) q in
@@ -255,19 +258,27 @@ module _ (d : List ℕ) (cols : List Column) (n : ℕ) (s : List ℕ) (b : Judge
           entry = x .1;
         })
 
-    answered-some : Answered d cols n s b r i
+    answered-some : Replied
     answered-some =
         let few = bits-small s (b .tags) (2 * i) 2 in
         ⊎-elim answered-plain (λ w. ⊎-elim answered-const answered-dict w)
         (one-of-three tag few (λ q. not-null (inl q)))
 
-  -- The question for a row and a column that an accepted bucket has is answered, with the stored field.
-  pub answered : Answered d cols n s b r i
-  answered = by-null isNullHere refl
+  -- The answer of an accepted bucket to a row and a column that it has is the stored field.
+  pub replied : Replied
+  replied = by-null isNullHere refl
     where
-      by-null : (t : Bool) → isNullHere ≡ t → Answered d cols n s b r i
+      by-null : (t : Bool) → isNullHere ≡ t → Replied
       by-null true e = answered-null e
       by-null false e = answered-some e
+
+-- So is the answer to the question, by the schema's bytes.
+pub answered : (d : List ℕ) (cols : List Column) (n : ℕ) (s : List ℕ) (b : Judged) (r i : ℕ) → schema d ≡ found cols
+    → bucket cols n s ≡ found b → r < n → i < length cols → Answered (bucketField d n s r i) cols n s b r i
+unfolding bucketField
+answered d cols n s b r i read accepted row column =
+    let x = replied cols n s b r i accepted row column in
+    record { field = x .field; given = rw (read, accepted) (x .given); shows = x .shows }
 
 -- Every answer is the stored field of a row and a column that an accepted bucket has.
 pub stored : (d : List ℕ) (n : ℕ) (s : List ℕ) (r i : ℕ) (f : Field) → bucketField d n s r i ≡ found f

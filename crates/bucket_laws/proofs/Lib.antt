@@ -6,3 +6,4 @@ pub mod Laid
 pub mod Pieces
 pub mod Answered
 pub mod Within
+pub mod Pages

@@ -5,7 +5,7 @@ use mathlib.Core.Logic.{_⊎_}
 use mathlib.Core.Bool.{Bool, true}
 use mathlib.Core.List.{List}
 use lib.ListN.{length, getD}
-use Rattle.common.specs.Outcome.{found}
+use Rattle.common.specs.Outcome.{Outcome, found}
 use Rattle.common.specs.Bytes.{ceil8, lowBit, lowBits}
 use Rattle.row_spec.specs.Varint.{varintAt}
 use Rattle.row_spec.specs.Schema.{schema, blankColumn}
@@ -18,7 +18,7 @@ use Rattle.row_spec.specs.declared.Field.{Field}
 use Rattle.row_spec.specs.declared.Field.the-variants.{Null}
 use Rattle.row_spec.specs.declared.Value.the-variants.{Read}
 use Rattle.bucket_spec.specs.Piece.{values, indexWidth, live}
-use Rattle.bucket_spec.specs.Bucket.{Judged, mapped, bucket, bucketField}
+use Rattle.bucket_spec.specs.Bucket.{Judged, mapped, answer, bucket}
 
 -- Of m values of a type from at on, f is value j: it is read where the j before it end.
 pub record Among (s : List ℕ) (t : ColumnType) (at m j : ℕ) (f : Field) : Type 0 where
@@ -74,6 +74,10 @@ module _ (cols : List Column) (n : ℕ) (s : List ℕ) (b : Judged) (i : ℕ) wh
   abbrev pub cellsAt : ℕ
   cellsAt = getD (b .layout .cells) i 0
 
+  -- the answer to row r
+  abbrev pub replyAt : ℕ → Outcome Field
+  replyAt r = answer cols n s (b .tags) (b .tags + ceil8 (2 * length cols)) r i (b .layout)
+
   -- "A set null bit means null. ALL_NULL has no bitmap and no data, whatever its has-nulls bit."
   abbrev pub NullAt : ℕ → Type 0
   NullAt r = (tagAt ≡ 3) ⊎ ((hasNulls ≡ 1) × (lowBit s nullsAt r ≡ 1))
@@ -113,10 +117,10 @@ pub record Shows (cols : List Column) (n : ℕ) (s : List ℕ) (b : Judged) (r i
   pub dict : (NullAt cols n s b i r → ⊥) → tagAt cols n s b i ≡ 2 → DictAt cols n s b i r f
   pub within : inside (length s) f ≡ true
 
--- the answer to a question for row r and column i
-pub record Answered (d : List ℕ) (cols : List Column) (n : ℕ) (s : List ℕ) (b : Judged) (r i : ℕ) : Type 0 where
+-- the answer o to a question for row r and column i
+pub record Answered (o : Outcome Field) (cols : List Column) (n : ℕ) (s : List ℕ) (b : Judged) (r i : ℕ) : Type 0 where
   pub field : Field
-  pub given : bucketField d n s r i ≡ found field
+  pub given : o ≡ found field
   pub shows : Shows cols n s b r i field
 
 -- a question that was answered with f: schema and bucket are accepted, row and column exist, and f is the stored field

@@ -12,3 +12,5 @@ pub mod Values
 pub mod Starts
 pub mod Accepted
 pub mod Status
+pub mod Flat
+pub mod Pages
