@@ -32,7 +32,9 @@ add-result c = search needs
 
 -- src/lib.rt:63:1
 returns-2 : tie.Need-returns-2
-returns-2 c = sym (unsigned-above (c .before .args .half) (c .before .args .n) (c .if1 .left) (omega arith) (omega arith) ∙ omega arith)
+returns-2 c =
+    let args = c .before .args in
+    sym (unsigned-above (args .half) (args .n) (c .if1 .left) (omega arith) (omega arith) ∙ omega arith)
 
 pub extended-spec : {M : Type 1} → statement M
 extended-spec =

@@ -1,3 +1,9 @@
+-- A null is three zeros; else the value. Assumes nothing.
+use Rattle.row_spec.specs.Page.{listed}
+use Rattle.row_spec.specs.declared.Field.the-variants.{Null}
+use Rattle.value_list.specs.declared.Cell.{Cell}
+use Rattle.value_list.specs.Cell.{numbersIn}
+use Rattle.value_list.proofs.Stored.{read-holds}
 use mathlib.Core.Path.{_≡_, refl, sym, ap, _∙_}
 use Prim.Native.Nat.{ℕ, zero, suc, _+_, _-_, _*_, _≤_, _<_}
 use native.Mathlib.Omega.{arith}
@@ -16,7 +22,12 @@ cell-of-requires c κs = search needs
 
 -- src/lib.rt:182:9
 returns : tie.Need-returns
-returns c = ?
+unfolding listed
+returns c =
+    let args = c .before .before .before .args in
+    rw (c .before .if1 .taken)
+    (read-holds _ Null (args .at) (ap numbersIn (c .cell-of .ensures))
+    (ap (λ (x : Cell). x .next) (c .cell-of .ensures)))
 
 -- src/lib.rt:184:5
 cell-at-requires : tie.Need-cell-at-requires
@@ -24,7 +35,7 @@ cell-at-requires c κs = search needs
 
 -- src/lib.rt:178:1
 returns-2 : tie.Need-returns-2
-returns-2 c = ?
+returns-2 c = rw (c .before .if1 .left) (c .cell-at .ensures)
 
 pub field-cell-spec : {M : Type 1} → statement M
 field-cell-spec = tie.close (tie.spec cell-of-requires returns cell-at-requires returns-2)

@@ -1,3 +1,4 @@
+-- With null bits, whether the bit is 1; without, nothing is null. Assumes nothing.
 use mathlib.Core.Path.{_≡_, refl, sym, ap, _∙_}
 use Prim.Native.Nat.{ℕ, zero, suc, _+_, _-_, _*_, _≤_, _<_}
 use native.Mathlib.Omega.{arith}
@@ -15,7 +16,7 @@ bit-at-requires c κs = search needs
 
 -- src/lib.rt:172:9
 returns : tie.Need-returns
-returns c = ?
+returns c = rw (c .before .if1 .taken, ← c .bit-at .ensures .0)
 
 -- src/lib.rt:168:1
 returns-2 : tie.Need-returns-2

@@ -1,3 +1,6 @@
+-- The fields so far are in the list, and the next stands where the last ended. Assumes nothing.
+
+use Rattle.value_list.proofs.Runs.{Upto, upto-none, upto-more, upto-all, storage-there}
 use borrow.Author.Needs.{needs}
 use mathlib.Core.Path.{_≡_, refl, sym, ap, _∙_}
 use Prim.Native.Nat.{ℕ, zero, suc, _+_, _-_, _*_, _≤_, _<_}
@@ -13,14 +16,14 @@ use Rattle.value_list.proofs.put_cell.Reads as put-cell-reads
 use Rattle.value_list.proofs.which.Reads as which-reads
 
 abbrev Inv-loop : tie.InvT-loop
-Inv-loop s run n from list₀ k storages at₀ m₀ list at m = ?
+Inv-loop s run n from list₀ k storages at₀ m₀ list at m = (m ≤ n) × (length list ≡ length list₀) × Upto s storages run n from k list₀ m list at
 
 abbrev μ-loop : tie.MeasureT-loop
-μ-loop s run n from list₀ k storages at₀ m₀ list at m = ?
+μ-loop s run n from list₀ k storages at₀ m₀ list at m = n - m
 
 -- src/lib.rt:222:5
 loop-holds : tie.Need-loop-holds Inv-loop μ-loop
-loop-holds c = search needs
+loop-holds c = (omega arith, refl, upto-none _ _ _ _ _ _ _)
 
 -- src/lib.rt:223:27
 which-requires : tie.Need-which-requires Inv-loop μ-loop
@@ -28,11 +31,19 @@ which-requires c κs = search needs
 
 -- src/lib.rt:223:18
 mul-st : tie.Need-mul-st Inv-loop μ-loop
-mul-st c = search needs
+mul-st c =
+    let args = c .before .before .before .before .before .args in
+    let pre = c .before .before .before .before .before .pre in
+    let there = storage-there (args .run .same) (c .before .before .loop .m) (args .n) (pre .0) (c .before .loop-test .taken) in
+    omega (arith, c .which .ensures)
 
 -- src/lib.rt:223:18
 array-copy-out-st : tie.Need-array-copy-out-st Inv-loop μ-loop
-array-copy-out-st c = search needs
+array-copy-out-st c =
+    let args = c .before .before .before .before .before .args in
+    let pre = c .before .before .before .before .before .pre in
+    rw (c .which .ensures)
+    (storage-there (args .run .same) (c .before .before .loop .m) (args .n) (pre .0) (c .before .loop-test .taken))
 
 -- src/lib.rt:224:54
 add-is-null : tie.Need-add-is-null Inv-loop μ-loop
@@ -68,15 +79,30 @@ loop-less c = search needs
 
 -- src/lib.rt:222:5
 loop-again : tie.Need-loop-again Inv-loop μ-loop
-loop-again c = search needs
+loop-again c =
+    let loop = c .before .before .before .before .before .before .before .before .before .before .loop in
+    let loop-test = c .before .before .before .before .before .before .before .before .before .loop-test in
+    let which = c .before .before .before .before .before .before .before .before .which in
+    let is-null = c .before .before .before .before .before .is-null in
+    let field-cell = c .before .before .before .before .field-cell in
+    let put-cell = c .before .before .put-cell in (
+      omega arith,
+      put-cell .kept .0 ∙ loop .inv .1,
+      upto-more _ _ _ _ _ _ _ (loop .m) (loop .at) (loop .list) _ (field-cell .result) (loop-test .taken)
+          (loop .inv .2) (rw (← which .ensures, ← is-null .ensures) (field-cell .ensures)) (put-cell .ensures),
+    )
 
 -- src/lib.rt:208:1
 same-length : tie.Need-same-length Inv-loop μ-loop
-same-length c = search needs
+same-length c = c .before .loop .inv .1
 
 -- src/lib.rt:208:1
 returns : tie.Need-returns Inv-loop μ-loop
-returns c = search needs
+returns c =
+    let args = c .before .before .before .before .args in
+    let loop = c .before .loop in
+    let all : loop .m ≡ args .n = omega arith in
+    upto-all _ _ _ _ _ _ _ _ _ (rw all at (loop .inv .2))
 
 pub list-run-spec : {M : Type 1} → statement M
 list-run-spec =

@@ -52,7 +52,9 @@ returns-2 c = rw (c .before .enum-told2 .given .1) (bad-holds _)
 
 -- src/lib.rt:115:1
 returns-3 : tie.Need-returns-3
-returns-3 c = rw (c .before .before .r .given .1) (nanos-holds (c .before .before .before .before .args .count) _ _ _ _ (search needs) (c .cell-of3 .ensures))
+returns-3 c =
+    let args = c .before .before .before .before .args in
+    rw (c .before .before .r .given .1) (nanos-holds (args .count) _ _ _ _ (search needs) (c .cell-of3 .ensures))
 
 pub nanos-cell-spec : {M : Type 1} → statement M
 nanos-cell-spec =

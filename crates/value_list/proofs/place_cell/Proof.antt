@@ -50,7 +50,14 @@ cast-cell-of c = search needs
 
 -- src/lib.rt:94:58
 add-cell-of : tie.Need-add-cell-of
-add-cell-of c = omega (arith, leb-true (c .before .before .before .r .given .0 .1 .0 + c .before .before .before .r .given .0 .0) (length (c .before .before .before .before .before .before .args .s .now)) (sym (c .before .has .ensures) ∙ c .if1 .taken))
+add-cell-of c =
+    let args = c .before .before .before .before .before .before .args in
+    let r = c .before .before .before .r in
+    omega (
+      arith,
+      leb-true (r .given .0 .1 .0 + r .given .0 .0) (length (args .s .now))
+          (sym (c .before .has .ensures) ∙ c .if1 .taken),
+    )
 
 -- src/lib.rt:94:17
 cell-of-requires-3 : tie.Need-cell-of-requires-3
@@ -58,7 +65,10 @@ cell-of-requires-3 c κs = search needs
 
 -- src/lib.rt:94:17
 returns : tie.Need-returns
-returns c = λ least. rw (c .before .before .before .before .r .given .1) (place-holds (c .before .before .before .before .before .before .before .args .s .now) least _ _ _ _ (λ e. c .cell-of3 .ensures))
+returns c =
+    let args = c .before .before .before .before .before .before .before .args in
+    let r = c .before .before .before .before .r in
+    λ least. rw (r .given .1) (place-holds (args .s .now) least _ _ _ _ (λ e. c .cell-of3 .ensures))
 
 -- src/lib.rt:96:13
 cell-of-requires-4 : tie.Need-cell-of-requires-4
@@ -76,7 +86,10 @@ returns-3 c = λ least. rw (c .before .enum-told2 .given .1) (bad-holds _)
 
 -- src/lib.rt:85:1
 returns-4 : tie.Need-returns-4
-returns-4 c = λ least. rw (c .before .before .before .before .r .given .1) (place-holds (c .before .before .before .before .before .before .before .args .s .now) least _ _ _ _ (λ e. clash (cc)))
+returns-4 c =
+    let args = c .before .before .before .before .before .before .before .args in
+    let r = c .before .before .before .before .r in
+    λ least. rw (r .given .1) (place-holds (args .s .now) least _ _ _ _ (λ e. clash (cc)))
 
 pub place-cell-spec : {M : Type 1} → statement M
 place-cell-spec =

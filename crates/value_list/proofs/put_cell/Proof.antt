@@ -1,3 +1,6 @@
+-- Three stores one after the other are the three numbers behind what is there. Assumes nothing.
+use lib.ListN.{length, getD, set, length-set}
+use Rattle.value_list.proofs.Runs.{put-more}
 use mathlib.Core.Path.{_≡_, refl, sym, ap, _∙_}
 use Prim.Native.Nat.{ℕ, zero, suc, _+_, _-_, _*_, _≤_, _<_}
 use native.Mathlib.Omega.{arith}
@@ -26,7 +29,7 @@ mul-list-2 c = search needs
 
 -- src/lib.rt:193:5
 slice-write-list-2 : tie.Need-slice-write-list-2
-slice-write-list-2 c = ?
+slice-write-list-2 c = omega (arith, length-set (c .args .list .now) (c .args .k) (c .args .c .kind))
 
 -- src/lib.rt:194:10
 add-list-2 : tie.Need-add-list-2
@@ -38,7 +41,12 @@ mul-list-3 c = search needs
 
 -- src/lib.rt:194:5
 slice-write-list-3 : tie.Need-slice-write-list-3
-slice-write-list-3 c = ?
+slice-write-list-3 c =
+    omega (
+      arith,
+      length-set (c .args .list .now) (c .args .k) (c .args .c .kind),
+      length-set (set (c .args .list .now) (c .args .k) (c .args .c .kind)) (c .args .k + 1) (c .args .c .value),
+    )
 
 -- src/lib.rt:188:1
 same-length : tie.Need-same-length
@@ -46,7 +54,7 @@ same-length c = search needs
 
 -- src/lib.rt:188:1
 returns : tie.Need-returns
-returns c = ?
+returns c = put-more (c .args .k) (c .args .c) (c .args .list .now) (search needs)
 
 pub put-cell-spec : {M : Type 1} → statement M
 put-cell-spec =

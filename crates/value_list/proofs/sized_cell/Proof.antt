@@ -35,7 +35,13 @@ place-cell-requires c κs = search needs
 
 -- src/lib.rt:108:13
 returns : tie.Need-returns
-returns c = λ least. rw (one-group (c .before .before .before .before .before .before .args .s .now) (c .before .before .before .before .before .before .args .at) (c .before .before .before .before .if1 .taken) (omega (arith, c .before .before .wide .ensures .0)), ← c .before .before .wide .ensures .0) (c .place-cell .ensures least)
+returns c =
+    let args = c .before .before .before .before .before .before .args in
+    let if1 = c .before .before .before .before .if1 in
+    let wide = c .before .before .wide in
+    λ least.
+    rw (one-group (args .s .now) (args .at) (if1 .taken) (omega (arith, wide .ensures .0)), ← wide .ensures .0)
+    (c .place-cell .ensures least)
 
 -- src/lib.rt:111:19
 varint-requires : tie.Need-varint-requires

@@ -23,11 +23,17 @@ has-requires c κs = search needs
 
 -- src/lib.rt:140:30
 add-word : tie.Need-add-word
-add-word c = omega (arith, leb-true (c .before .before .before .args .at + 12) (length (c .before .before .before .args .s .now)) (sym (c .before .has .ensures) ∙ c .if1 .taken))
+add-word c =
+    let args = c .before .before .before .args in
+    omega (arith, leb-true (args .at + 12) (length (args .s .now)) (sym (c .before .has .ensures) ∙ c .if1 .taken))
 
 -- src/lib.rt:140:17
 word-requires : tie.Need-word-requires
-word-requires c κs = (omega (arith, leb-true (c .before .before .before .args .at + 12) (length (c .before .before .before .args .s .now)) (sym (c .before .has .ensures) ∙ c .if1 .taken)), search needs)
+word-requires c κs =
+    let args = c .before .before .before .args in (
+      omega (arith, leb-true (args .at + 12) (length (args .s .now)) (sym (c .before .has .ensures) ∙ c .if1 .taken)),
+      search needs,
+    )
 
 -- src/lib.rt:140:17
 cast-n : tie.Need-cast-n
@@ -35,11 +41,22 @@ cast-n c = search needs
 
 -- src/lib.rt:141:27
 word-requires-2 : tie.Need-word-requires-2
-word-requires-2 c κs = (omega (arith, leb-true (c .before .before .before .before .args .at + 12) (length (c .before .before .before .before .args .s .now)) (sym (c .before .before .has .ensures) ∙ c .before .if1 .taken)), search needs)
+word-requires-2 c κs =
+    let args = c .before .before .before .before .args in (
+      omega (
+        arith,
+        leb-true (args .at + 12) (length (args .s .now))
+            (sym (c .before .before .has .ensures) ∙ c .before .if1 .taken),
+      ),
+      search needs,
+    )
 
 -- src/lib.rt:141:66
 add-t7 : tie.Need-add-t7
-add-t7 c = omega (arith, leb-true (c .before .before .before .before .before .args .at + 12) (length (c .before .before .before .before .before .args .s .now)) (sym (c .before .before .before .has .ensures) ∙ c .before .before .if1 .taken))
+add-t7 c =
+    let args = c .before .before .before .before .before .args in
+    let has = c .before .before .before .has in
+    omega (arith, leb-true (args .at + 12) (length (args .s .now)) (sym (has .ensures) ∙ c .before .before .if1 .taken))
 
 -- src/lib.rt:141:9
 nanos-cell-requires : tie.Need-nanos-cell-requires
@@ -48,7 +65,10 @@ nanos-cell-requires c κs = search needs
 -- src/lib.rt:141:9
 returns : tie.Need-returns
 unfolding storedAt
-returns c = room-holds _ (c .before .before .before .before .before .before .args .s .now) (c .before .before .before .before .before .before .args .at) 12 _ (λ e. rw (← c .before .word2 .ensures .0, ← c .before .before .word .ensures .0) (c .nanos-cell .ensures))
+returns c =
+    let args = c .before .before .before .before .before .before .args in
+    room-holds _ (args .s .now) (args .at) 12 _
+    (λ e. rw (← c .before .word2 .ensures .0, ← c .before .before .word .ensures .0) (c .nanos-cell .ensures))
 
 -- src/lib.rt:143:5
 cell-of-requires : tie.Need-cell-of-requires
@@ -57,7 +77,9 @@ cell-of-requires c κs = search needs
 -- src/lib.rt:136:1
 returns-2 : tie.Need-returns-2
 unfolding storedAt
-returns-2 c = room-holds _ (c .before .before .before .before .args .s .now) (c .before .before .before .before .args .at) 12 _ (λ e. clash (cc))
+returns-2 c =
+    let args = c .before .before .before .before .args in
+    room-holds _ (args .s .now) (args .at) 12 _ (λ e. clash (cc))
 
 pub time-fixed-cell-spec : {M : Type 1} → statement M
 time-fixed-cell-spec =

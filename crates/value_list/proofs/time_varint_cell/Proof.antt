@@ -24,11 +24,19 @@ has-requires c κs = search needs
 
 -- src/lib.rt:130:27
 word-requires : tie.Need-word-requires
-word-requires c κs = (leb-true (c .before .before .before .args .at + 8) (length (c .before .before .before .args .s .now)) (sym (c .before .has .ensures) ∙ c .if1 .taken), search needs)
+word-requires c κs =
+    let args = c .before .before .before .args in
+    (leb-true (args .at + 8) (length (args .s .now)) (sym (c .before .has .ensures) ∙ c .if1 .taken), search needs)
 
 -- src/lib.rt:130:58
 add-varint : tie.Need-add-varint
-add-varint c = omega (arith, leb-true (c .before .before .before .before .args .at + 8) (length (c .before .before .before .before .args .s .now)) (sym (c .before .before .has .ensures) ∙ c .before .if1 .taken))
+add-varint c =
+    let args = c .before .before .before .before .args in
+    omega (
+      arith,
+      leb-true (args .at + 8) (length (args .s .now))
+          (sym (c .before .before .has .ensures) ∙ c .before .if1 .taken),
+    )
 
 -- src/lib.rt:130:48
 varint-requires : tie.Need-varint-requires
@@ -41,7 +49,10 @@ nanos-cell-requires c κs = search needs
 -- src/lib.rt:130:9
 returns : tie.Need-returns
 unfolding storedAt
-returns c = room-holds _ (c .before .before .before .before .before .before .args .s .now) (c .before .before .before .before .before .before .args .at) 8 _ (λ e. rw (← c .before .before .word .ensures .0, ← c .before .varint .ensures) (c .nanos-cell .ensures))
+returns c =
+    let args = c .before .before .before .before .before .before .args in
+    room-holds _ (args .s .now) (args .at) 8 _
+    (λ e. rw (← c .before .before .word .ensures .0, ← c .before .varint .ensures) (c .nanos-cell .ensures))
 
 -- src/lib.rt:132:5
 cell-of-requires : tie.Need-cell-of-requires
@@ -50,7 +61,9 @@ cell-of-requires c κs = search needs
 -- src/lib.rt:126:1
 returns-2 : tie.Need-returns-2
 unfolding storedAt
-returns-2 c = room-holds _ (c .before .before .before .before .args .s .now) (c .before .before .before .before .args .at) 8 _ (λ e. clash (cc))
+returns-2 c =
+    let args = c .before .before .before .before .args in
+    room-holds _ (args .s .now) (args .at) 8 _ (λ e. clash (cc))
 
 pub time-varint-cell-spec : {M : Type 1} → statement M
 time-varint-cell-spec =

@@ -24,7 +24,11 @@ has-requires c κs = search needs
 
 -- src/lib.rt:79:36
 word-requires : tie.Need-word-requires
-word-requires c κs = (leb-true (c .before .before .before .args .at + c .before .before .before .args .w) (length (c .before .before .before .args .s .now)) (sym (c .before .has .ensures) ∙ c .if1 .taken), search needs)
+word-requires c κs =
+    let args = c .before .before .before .args in (
+      leb-true (args .at + args .w) (length (args .s .now)) (sym (c .before .has .ensures) ∙ c .if1 .taken),
+      search needs,
+    )
 
 -- src/lib.rt:79:27
 extended-requires : tie.Need-extended-requires
@@ -32,7 +36,13 @@ extended-requires c κs = search needs
 
 -- src/lib.rt:79:67
 add-cell-of : tie.Need-add-cell-of
-add-cell-of c = omega (arith, leb-true (c .before .before .before .before .before .args .at + c .before .before .before .before .before .args .w) (length (c .before .before .before .before .before .args .s .now)) (sym (c .before .before .before .has .ensures) ∙ c .before .before .if1 .taken))
+add-cell-of c =
+    let args = c .before .before .before .before .before .args in
+    let has = c .before .before .before .has in
+    omega (
+      arith,
+      leb-true (args .at + args .w) (length (args .s .now)) (sym (has .ensures) ∙ c .before .before .if1 .taken),
+    )
 
 -- src/lib.rt:79:9
 cell-of-requires : tie.Need-cell-of-requires
@@ -40,7 +50,12 @@ cell-of-requires c κs = search needs
 
 -- src/lib.rt:79:9
 returns : tie.Need-returns
-returns c = λ e. c .cell-of .ensures ∙ ap (λ (n : ℕ). cellOf 2 n 0 (c .before .before .before .before .before .before .args .at + c .before .before .before .before .before .before .args .w)) (c .before .extended .ensures ∙ ap (λ (n : ℕ). unsigned (signedOf (c .before .before .before .before .before .before .args .half) n)) (c .before .before .word .ensures .0))
+returns c =
+    let args = c .before .before .before .before .before .before .args in
+    λ e.
+    c .cell-of .ensures ∙ ap (λ (n : ℕ). cellOf 2 n 0 (args .at + args .w))
+    (c .before .extended .ensures ∙ ap (λ (n : ℕ). unsigned (signedOf (args .half) n))
+    (c .before .before .word .ensures .0))
 
 -- src/lib.rt:81:5
 cell-of-requires-2 : tie.Need-cell-of-requires-2

@@ -22,11 +22,21 @@ has-requires c κs = search needs
 
 -- src/lib.rt:57:30
 word-requires : tie.Need-word-requires
-word-requires c κs = (leb-true (c .before .before .before .args .at + c .before .before .before .args .w) (length (c .before .before .before .args .s .now)) (sym (c .before .has .ensures) ∙ c .if1 .taken), search needs)
+word-requires c κs =
+    let args = c .before .before .before .args in (
+      leb-true (args .at + args .w) (length (args .s .now)) (sym (c .before .has .ensures) ∙ c .if1 .taken),
+      search needs,
+    )
 
 -- src/lib.rt:57:54
 add-cell-of : tie.Need-add-cell-of
-add-cell-of c = omega (arith, leb-true (c .before .before .before .before .args .at + c .before .before .before .before .args .w) (length (c .before .before .before .before .args .s .now)) (sym (c .before .before .has .ensures) ∙ c .before .if1 .taken))
+add-cell-of c =
+    let args = c .before .before .before .before .args in
+    omega (
+      arith,
+      leb-true (args .at + args .w) (length (args .s .now))
+          (sym (c .before .before .has .ensures) ∙ c .before .if1 .taken),
+    )
 
 -- src/lib.rt:57:9
 cell-of-requires : tie.Need-cell-of-requires
@@ -34,7 +44,13 @@ cell-of-requires c κs = search needs
 
 -- src/lib.rt:57:9
 returns : tie.Need-returns
-returns c = λ e. (c .cell-of .ensures ∙ ap (λ (n : ℕ). cellOf (c .before .before .before .before .before .args .kind) n 0 (c .before .before .before .before .before .args .at + c .before .before .before .before .before .args .w)) (c .before .word .ensures .0), rw (← c .before .word .ensures .0) (c .before .word .ensures .1))
+returns c =
+    let args = c .before .before .before .before .before .args in
+    let word = c .before .word in
+    λ e. (
+      c .cell-of .ensures ∙ ap (λ (n : ℕ). cellOf (args .kind) n 0 (args .at + args .w)) (word .ensures .0),
+      rw (← word .ensures .0) (word .ensures .1),
+    )
 
 -- src/lib.rt:59:5
 cell-of-requires-2 : tie.Need-cell-of-requires-2
