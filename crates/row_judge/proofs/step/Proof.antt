@@ -4,8 +4,8 @@ use Prim.Native.Nat.{ℕ, zero, suc, _+_, _-_, _*_, _≤_, _<_}
 use native.Mathlib.Omega.{arith}
 use lib.ListN.{length, getD}
 use borrow.Author.Needs.{needs}
-use Rattle.rows.proofs.walk.step.Statement.{statement}
-use Rattle.rows.proofs.walk.step.Tie as tie
+use Rattle.row_judge.proofs.step.Statement.{statement}
+use Rattle.row_judge.proofs.step.Tie as tie
 
 field-at-requires : tie.Need-field-at-requires
 field-at-requires c κs = search needs

@@ -13,9 +13,9 @@ use Rattle.row_spec.specs.declared.Field.{Field}
 use Rattle.row_spec.specs.declared.Value.{Value}
 use Rattle.row_spec.specs.declared.Value.the-variants as value
 use Rattle.row_laws.proofs.Rows.{fields-cut, fields-bad, fields-more}
-use Rattle.rows.specs.declared.Cursor.{Cursor}
-use Rattle.rows.specs.declared.Stepped.the-variants as stepped
-use Rattle.rows.specs.Told.{stepTold}
+use Rattle.row_judge.specs.declared.Cursor.{Cursor}
+use Rattle.row_judge.specs.declared.Stepped.the-variants as stepped
+use Rattle.row_judge.specs.Told.{stepTold}
 
 -- what is left of the row at the cursor, after the fields of acc
 abbrev pub left : List ℕ → List Column → Cursor → List Field → Outcome Row
