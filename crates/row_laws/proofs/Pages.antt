@@ -168,15 +168,17 @@ module _ (d s : List ℕ) (cols : List Column) (rs : List (List Field)) (read : 
   block-pages-all ms h many =
       pages-all (length cols) rs (blockPage d s) block-page ms (schema-length d cols read .0) h many
 
--- what a page is of
+-- ---- a page of a block
 module _ (d s : List ℕ) (cols : List Column) (p room : ℕ) (x : Page) (read : schema d ≡ found cols)
     (page : blockPage d s p room ≡ found x) where
+  -- it is of an accepted block
   page-of : (rs : List (List Field)) × ((block cols s ≡ found rs) × (pageOf (length cols) rs p room ≡ x))
   unfolding blockPage
   page-of =
       let y = then-found (block cols s) (λ rs. found (pageOf (length cols) rs p room)) x (rw read at page) in
       (y .0, (y .1 .0, same-found (y .1 .1)))
 
+  -- as many whole rows as the room takes, or all that are left; it fits the room
   pub page-given : PageFits (length cols) p room x
   page-given =
       let y = page-of in
