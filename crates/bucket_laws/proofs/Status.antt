@@ -16,12 +16,14 @@ use Rattle.row_spec.specs.Value.{valueAt}
 use Rattle.row_spec.specs.declared.Varint.{Varint}
 use Rattle.row_spec.specs.declared.Column.{Column}
 use Rattle.row_spec.specs.declared.ColumnType.{ColumnType}
+use Rattle.row_spec.specs.declared.Field.{Field}
 use Rattle.row_spec.specs.declared.Field.the-variants.{Null}
 use Rattle.row_laws.proofs.Status.{schema-numbered, on-varint-numbered, on-value-numbered}
 use Rattle.bucket_spec.specs.Piece.{values, hereOf, nth, tableOf, constPiece}
 use Rattle.bucket_spec.specs.Piece.{tablePiece, nullsPiece, live, indexes, dataPiece, piece, entryOf, valueOf}
 use Rattle.bucket_spec.specs.Bucket.{Judged, Layout, along, pieceOf, parts, body, isNull, answer, headNumber, tagsAt}
 use Rattle.bucket_spec.specs.Bucket.{bucket, bucketRefusal, bucketField}
+use Rattle.bucket_spec.specs.Page.{answers, column, bucketPage}
 
 -- ---- values
 module _ (s : List ℕ) (t : ColumnType) where
@@ -148,6 +150,19 @@ bucket-field-numbered d n s r i =
     then-numbered _ _ (schema-numbered d) (λ cols.
     then-numbered _ _ (bucket-numbered cols n s) (λ b.
     answer-numbered cols n s (b .tags) (b .tags + ceil8 (2 * length cols)) r i (b .layout)))
+
+answers-numbered : (f : ℕ → Outcome Field) → ((r : ℕ) → Numbered (f r)) → (r k : ℕ) → Numbered (answers f r k)
+unfolding answers
+answers-numbered f h r zero = found-numbered _
+answers-numbered f h r (suc k) = then-numbered _ _ (h r) (λ x. told-numbered _ _ (answers-numbered f h (suc r) k))
+
+pub bucket-page-numbered : (d : List ℕ) (n : ℕ) (s : List ℕ) (i p room : ℕ) → Numbered (bucketPage d n s i p room)
+unfolding bucketPage column
+bucket-page-numbered d n s i p room =
+    then-numbered _ _ (schema-numbered d) (λ cols.
+    then-numbered _ _ (bucket-numbered cols n s) (λ b.
+    need-numbered _ _ _ (told-numbered _ _ (answers-numbered _ (λ r.
+    answer-numbered cols n s (b .tags) (b .tags + ceil8 (2 * length cols)) r i (b .layout)) 0 n))))
 
 -- so a check's 0 says that schema and bucket are accepted
 pub bucket-zero : (d : List ℕ) (n : ℕ) (s : List ℕ) → status (bucketRefusal d n s) ≡ 0

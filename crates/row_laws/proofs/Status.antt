@@ -1,16 +1,18 @@
--- No question about schemas and row blocks is refused with 0.
+-- No question about schemas and row blocks is refused with 0, and a page is refused as the count of rows is.
 -- Assumes nothing.
+use mathlib.Core.Path.{_≡_, refl}
 use mathlib.Core.List.{List, [], _∷_, _++_}
 use Prim.Native.Nat.{ℕ, zero, suc, _+_, _-_, _*_}
 use native.Mathlib.Omega.{arith}
 use lib.ListN.{length, take}
-use Rattle.common.specs.Outcome.{Outcome, refused, Numbered}
+use Rattle.common.specs.Outcome.{Outcome, refused, found, then, status, Numbered}
 use Rattle.common.specs.Bytes.{ceil8, littleAt}
 use Rattle.common.proofs.Outcomes.{found-numbered, refused-numbered, need-numbered, then-numbered, told-numbered}
 use Rattle.row_spec.specs.Varint.{onVarint}
 use Rattle.row_spec.specs.Schema.{schema, columnCount, columnOf}
 use Rattle.row_spec.specs.Value.{onValue}
 use Rattle.row_spec.specs.Block.{fieldAt, fields, row, rows, counted, block, asked, rowCount, blockField}
+use Rattle.row_spec.specs.Page.{blockPage}
 use Rattle.row_spec.specs.declared.Column.{Column}
 use Rattle.row_spec.specs.declared.Field.{Field}
 use Rattle.row_spec.specs.declared.Varint.{Varint}
@@ -81,3 +83,19 @@ unfolding blockField asked
 block-field-numbered d s r c =
     then-numbered _ _ (schema-numbered d)
     (λ cols. then-numbered _ _ (block-numbered cols s) (λ rs. need-numbered _ _ _ (found-numbered _)))
+
+pub block-page-numbered : (d s : List ℕ) (p room : ℕ) → Numbered (blockPage d s p room)
+unfolding blockPage
+block-page-numbered d s p room =
+    then-numbered _ _ (schema-numbered d) (λ cols. told-numbered _ _ (block-numbered cols s))
+
+-- ---- the number that a call returns
+-- after the same outcome, two calls return the same if what follows does
+pub then-status : {A B C : Type 0} (o : Outcome A) (f : A → Outcome B) (g : A → Outcome C)
+    → ((a : A) → o ≡ found a → status (f a) ≡ status (g a)) → status (then o f) ≡ status (then o g)
+then-status (refused n) f g h = refl
+then-status (found a) f g h = h a refl
+
+pub page-status : (d s : List ℕ) (p room : ℕ) → status (blockPage d s p room) ≡ status (rowCount d s)
+unfolding blockPage rowCount
+page-status d s p room = then-status (schema d) _ _ (λ cols e. then-status (block cols s) _ _ (λ rs q. refl))

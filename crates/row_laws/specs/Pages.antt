@@ -1,11 +1,9 @@
--- What a page of an accepted block says, and what pages one after the other take together.
+-- How much a page gives, and which rows pages one after the other give together.
 use Prim.Native.Nat.{ℕ, _-_, _*_, _/_, _≤_, min}
 use mathlib.Core.Path.{_≡_}
 use mathlib.Core.List.{List}
 use lib.ListN.{length, take, drop}
-use Rattle.common.specs.Outcome.{found}
 use Rattle.common.specs.Lists.{sum}
-use Rattle.row_spec.specs.Block.{rowCount}
 use Rattle.row_spec.specs.Page.{Page, numbersOf}
 use Rattle.row_spec.specs.declared.Field.{Field}
 
@@ -14,9 +12,9 @@ use Rattle.row_spec.specs.declared.Field.{Field}
 abbrev pub rowsTaken : ℕ → List (List Field) → ℕ → List ℕ → List (List Field)
 rowsTaken width rs p rooms = take (sum (λ m. m / (3 * width)) rooms) (drop p rs)
 
--- the page x of a block from row p on: as many whole rows as the room takes, or all that are left; and it fits the room
-pub record PageFits (d s : List ℕ) (width p room : ℕ) (x : Page) : Type 0 where
-  pub rows : rowCount d s ≡ found (x .rows)
+-- the page x from row p on, of rows of width fields each: as many whole rows as the room takes, or all that are left;
+-- its numbers fit the room
+pub record PageFits (width p room : ℕ) (x : Page) : Type 0 where
   pub given : x .given ≡ min (room / (3 * width)) (x .rows - p)
   pub fields : length (x .fields) ≡ x .given * width
   pub fit : length (numbersOf (x .fields)) ≤ room
