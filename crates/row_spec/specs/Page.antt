@@ -1,14 +1,17 @@
 -- Pages of a table: its rows' fields as numbers in a lent list, three for each field, as many whole rows as the list takes.
 use Prim.Native.Nat.{ℕ, _+_, _-_, _*_, _/_}
+use mathlib.Core.Path.{_≡_}
 use mathlib.Core.List.{List, [], _∷_, _++_, flatMap, flatten}
 use lib.ListN.{length, take, drop}
 use lib.IntN.{ℤ, pos, negsuc}
 use lib.Ieee.{binary32, binary64, toBits}
-use Rattle.common.specs.Outcome.{one, Outcome, found, then}
+use Rattle.common.specs.Outcome.{one, Outcome, refused, found, then, after}
 use Rattle.row_spec.specs.Schema.{schema}
 use Rattle.row_spec.specs.Block.{block}
 use Rattle.row_spec.specs.declared.Field.{Field}
 use Rattle.row_spec.specs.declared.Field.the-variants as field
+use Rattle.row_spec.specs.declared.PageAnswer.{PageAnswer}
+use Rattle.row_spec.specs.declared.PageAnswer.the-variants as answer
 
 -- a whole number of 64 bits as its two's complement
 unfoldable pub unsigned : ℤ → ℕ
@@ -56,6 +59,16 @@ blockPage d s p room = then (schema d) (λ cols. then (block cols s) (λ rs. fou
 -- a list after a page of these fields: their numbers, then the rest unchanged
 unfoldable pub written : List Field → List ℕ → List ℕ
 written fs before = numbersOf fs ++ drop (length (numbersOf fs)) before
+
+-- what a page is answered
+abbrev pub pageTold : Outcome Page → PageAnswer
+pageTold (refused n) = answer.Refused n
+pageTold (found x) = answer.Page (x .given) (x .rows)
+
+-- a page of outcome o is answered with r and turns the list before into now; a refusal leaves it
+pub record Paged (o : Outcome Page) (r : PageAnswer) (before now : List ℕ) : Type 0 where
+  pub says : r ≡ pageTold o
+  pub holds : now ≡ after o (λ x. written (x .fields) before) before
 
 -- ---- pages one after the other, each from where the one before ended
 

@@ -139,3 +139,9 @@ pub enum FieldAnswer {
     Refused(u32),
     Field(Field),
 }
+
+// What a page of a table is answered: a refusal, or how many rows it gives and how many there are.
+pub enum PageAnswer {
+    Refused(u32),
+    Page { given: u32, rows: u32 },
+}

@@ -25,6 +25,10 @@ use Rattle.row_laws.proofs.Patterns.{single-listed, double-listed}
 use Rattle.value_list.specs.declared.Cell.{Cell}
 use Rattle.value_list.specs.Cell.{cellOf, numbersIn, Holds}
 
+-- a test that failed does not hold
+pub not-there : {A : Type 0} {t u : Bool} → t ≡ u → t ≡ false → u ≡ true → A
+not-there e f g = clash (ap one (sym f ∙ e ∙ g))
+
 module _ (c : Cell) where
   pub cut-holds : Holds CutShort c
   cut-holds = record { numbers = λ f next e. clash (cc); ends = λ f next e. clash (cc) }

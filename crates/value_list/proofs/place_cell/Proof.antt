@@ -1,9 +1,8 @@
 -- By what was read as the length: with room, the place behind it. Assumes nothing.
 use borrow.Author.Tests.{leb-true}
 use mathlib.Core.Bool.{true}
-use Rattle.common.proofs.Outcomes.{clash}
 use Rattle.row_spec.specs.Value.{sizedOf}
-use Rattle.value_list.proofs.Stored.{cut-holds, bad-holds, place-holds}
+use Rattle.value_list.proofs.Stored.{cut-holds, bad-holds, place-holds, not-there}
 use mathlib.Core.Path.{_≡_, refl, sym, ap, _∙_}
 use Prim.Native.Nat.{ℕ, zero, suc, _+_, _-_, _*_, _≤_, _<_}
 use native.Mathlib.Omega.{arith}
@@ -89,7 +88,7 @@ returns-4 : tie.Need-returns-4
 returns-4 c =
     let args = c .before .before .before .before .before .before .before .args in
     let r = c .before .before .before .before .r in
-    λ least. rw (r .given .1) (place-holds (args .s .now) least _ _ _ _ (λ e. clash (cc)))
+    λ least. rw (r .given .1) (place-holds (args .s .now) least _ _ _ _ (λ e. not-there (c .before .before .has .ensures) (c .before .if1 .left) e))
 
 pub place-cell-spec : {M : Type 1} → statement M
 place-cell-spec =

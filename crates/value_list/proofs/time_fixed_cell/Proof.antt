@@ -1,8 +1,7 @@
 -- With room for both, the count and four bytes of nanoseconds. Assumes nothing.
 use borrow.Author.Tests.{leb-true}
-use Rattle.common.proofs.Outcomes.{clash}
 use Rattle.row_spec.specs.Value.{storedAt}
-use Rattle.value_list.proofs.Stored.{room-holds}
+use Rattle.value_list.proofs.Stored.{room-holds, not-there}
 use mathlib.Core.Path.{_≡_, refl, sym, ap, _∙_}
 use Prim.Native.Nat.{ℕ, zero, suc, _+_, _-_, _*_, _≤_, _<_}
 use native.Mathlib.Omega.{arith}
@@ -79,7 +78,7 @@ returns-2 : tie.Need-returns-2
 unfolding storedAt
 returns-2 c =
     let args = c .before .before .before .before .args in
-    room-holds _ (args .s .now) (args .at) 12 _ (λ e. clash (cc))
+    room-holds _ (args .s .now) (args .at) 12 _ (λ e. not-there (c .before .before .has .ensures) (c .before .if1 .left) e)
 
 pub time-fixed-cell-spec : {M : Type 1} → statement M
 time-fixed-cell-spec =

@@ -1,8 +1,7 @@
 -- With room for the count, by the nanoseconds behind it. Assumes nothing.
 use borrow.Author.Tests.{leb-true}
-use Rattle.common.proofs.Outcomes.{clash}
 use Rattle.row_spec.specs.Value.{storedAt}
-use Rattle.value_list.proofs.Stored.{room-holds}
+use Rattle.value_list.proofs.Stored.{room-holds, not-there}
 use mathlib.Core.Path.{_≡_, refl, sym, ap, _∙_}
 use Prim.Native.Nat.{ℕ, zero, suc, _+_, _-_, _*_, _≤_, _<_}
 use native.Mathlib.Omega.{arith}
@@ -63,7 +62,7 @@ returns-2 : tie.Need-returns-2
 unfolding storedAt
 returns-2 c =
     let args = c .before .before .before .before .args in
-    room-holds _ (args .s .now) (args .at) 8 _ (λ e. clash (cc))
+    room-holds _ (args .s .now) (args .at) 8 _ (λ e. not-there (c .before .before .has .ensures) (c .before .if1 .left) e)
 
 pub time-varint-cell-spec : {M : Type 1} → statement M
 time-varint-cell-spec =

@@ -1,8 +1,8 @@
 -- With room, the number of the bytes in 64 bits; without it nothing is promised. Assumes nothing.
 use borrow.Author.Tests.{leb-true}
 use Rattle.common.specs.Bytes.{signedOf}
-use Rattle.common.proofs.Outcomes.{clash}
 use Rattle.row_spec.specs.Page.{unsigned}
+use Rattle.value_list.proofs.Stored.{not-there}
 use Rattle.value_list.specs.Cell.{cellOf}
 use mathlib.Core.Path.{_≡_, refl, sym, ap, _∙_}
 use Prim.Native.Nat.{ℕ, zero, suc, _+_, _-_, _*_, _≤_, _<_}
@@ -63,7 +63,7 @@ cell-of-requires-2 c κs = search needs
 
 -- src/lib.rt:74:1
 returns-2 : tie.Need-returns-2
-returns-2 c = λ e. clash (cc)
+returns-2 c = λ e. not-there (c .before .before .has .ensures) (c .before .if1 .left) e
 
 pub whole-cell-spec : {M : Type 1} → statement M
 whole-cell-spec =

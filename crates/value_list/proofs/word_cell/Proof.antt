@@ -1,7 +1,7 @@
 -- With room, the number of the bytes; without it nothing is promised. Assumes nothing.
 use borrow.Author.Tests.{leb-true}
 use Rattle.row_spec.specs.Value.{wordAt}
-use Rattle.common.proofs.Outcomes.{clash}
+use Rattle.value_list.proofs.Stored.{not-there}
 use Rattle.value_list.specs.Cell.{cellOf}
 use mathlib.Core.Path.{_≡_, refl, sym, ap, _∙_}
 use Prim.Native.Nat.{ℕ, zero, suc, _+_, _-_, _*_, _≤_, _<_}
@@ -58,7 +58,7 @@ cell-of-requires-2 c κs = search needs
 
 -- src/lib.rt:52:1
 returns-2 : tie.Need-returns-2
-returns-2 c = λ e. clash (cc)
+returns-2 c = λ e. not-there (c .before .before .has .ensures) (c .before .if1 .left) e
 
 pub word-cell-spec : {M : Type 1} → statement M
 word-cell-spec =
