@@ -1,8 +1,7 @@
 // Row blocks by pages: the schema and the block are judged once, then the rows from a place on are listed.
 ghost use mathlib.Core.Path.{_≡_};
 ghost use mathlib.Core.List.{map};
-ghost use Prim.Native.Nat.{_≤_, _+_, _-_, _*_};
-ghost use native.Mathlib.Nat.{min};
+ghost use Prim.Native.Nat.{_≤_, _+_, _*_};
 ghost use lib.ListN.{length, take};
 ghost use Rattle.row_spec.specs.Schema.{columnsOf};
 ghost use Rattle.row_spec.specs.Page.{blockPage, Paged};
@@ -31,7 +30,14 @@ fn storages_of(sc: Schema) -> [Storage; 64]
 }
 
 // The row at `at`, of n columns, into the list from number k on: where the next row starts.
-fn list_row(s: &[u8], storages: [Storage; 64], n: usize, at: usize, list: &mut [u64], k: usize) -> usize
+fn list_row(
+    s: &[u8],
+    storages: [Storage; 64],
+    n: usize,
+    at: usize,
+    list: &mut [u64],
+    k: usize,
+) -> usize
     requires { ⌜ (n ≤ 64) × (k + 3 * n ≤ length (now list)) ⌝ }
     ensures { λ r. ⌜ RowListed (now (s .entry)) (take n storages) at k (now (list .entry)) (now (list .exit)) r ⌝ }
 {
@@ -66,25 +72,12 @@ fn list_rows(s: &[u8], sc: Schema, from: usize, given: usize, list: &mut [u64])
     }
 }
 
-// How many rows a page gives: those from place on, but not more than fit.
-fn rows_given(rows: usize, place: usize, fit: usize) -> usize
-    ensures { λ r. ⌜ r ≡ min fit (rows - place) ⌝ }
-{
-    if rows <= place {
-        return 0;
-    }
-    if fit < rows - place {
-        return fit;
-    }
-    rows - place
-}
-
 // The rows of an accepted block of so many rows, from place on: how many were listed.
 fn list_block(s: &[u8], sc: Schema, rows: usize, place: usize, list: &mut [u64]) -> usize
     requires { ⌜ (1 ≤ sc .count) × (sc .count ≤ 64) × (length (sc .columns) ≡ 64) × (rows ≤ 65536) × (4 * rows + 4 ≤ length (now s)) ⌝ }
     ensures { λ r. ⌜ BlockListed (now (s .entry)) (columnsOf sc) place (length (now (list .entry))) r (now (list .entry)) (now (list .exit)) ⌝ }
 {
-    let given = rows_given(rows, place, list.len() / (3 * sc.count));
+    let given = value_list::rows_given(rows, place, list.len() / (3 * sc.count));
     if given == 0 {
         return 0;
     }

@@ -1,7 +1,7 @@
 // Stored values as the numbers of a page: three for each field, one field after the other. Inner: no entry point.
 ghost use mathlib.Core.Path.{_≡_};
 ghost use mathlib.Core.Bool.{true, false};
-ghost use Prim.Native.Nat.{ℕ, _≤_, _<_, _+_, _*_, _^_};
+ghost use Prim.Native.Nat.{ℕ, min, _≤_, _<_, _+_, _-_, _*_, _^_};
 ghost use lib.Dec.{leb, eqb};
 ghost use lib.ListN.{length};
 ghost use Rattle.common.specs.Outcome.{pick, both};
@@ -228,4 +228,17 @@ pub fn list_run(
         m += 1;
     }
     at
+}
+
+// How many rows a page gives: those from place on, but not more than fit.
+pub fn rows_given(rows: usize, place: usize, fit: usize) -> usize
+    ensures { λ r. ⌜ r ≡ min fit (rows - place) ⌝ }
+{
+    if rows <= place {
+        return 0;
+    }
+    if fit < rows - place {
+        return fit;
+    }
+    rows - place
 }
