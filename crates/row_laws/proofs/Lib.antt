@@ -14,3 +14,4 @@ pub mod Accepted
 pub mod Status
 pub mod Flat
 pub mod Pages
+pub mod Mapped

@@ -2,7 +2,7 @@
 use Prim.Native.Nat.{_+_, _/_, ℕ, _*_, _%_, _<_, _≤_}
 use mathlib.Core.Path.{_≡_, refl, sym, ap, subst, _∙_}
 use mathlib.Core.Bool.{Bool, true, false, not}
-use mathlib.Core.List.{List, [], _∷_}
+use mathlib.Core.List.{[], _∷_}
 use lib.Dec.{T}
 use lib.Ieee.Compare.{differs-from-itself, nan-differs}
 use native.Mathlib.Omega.{arith}

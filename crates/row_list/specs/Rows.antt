@@ -2,7 +2,7 @@
 use Prim.Native.Nat.{ℕ, _+_, _*_, _<_}
 use mathlib.Core.Path.{_≡_}
 use mathlib.Core.List.{List, [], _++_, map, flatten}
-use lib.ListN.{length, getD, take}
+use lib.ListN.{length, getD}
 use Rattle.common.specs.Outcome.{found}
 use Rattle.row_spec.specs.Value.{storageOf}
 use Rattle.row_spec.specs.Block.{Row, row, block}
@@ -36,8 +36,8 @@ pub record RowsListed (s : List ℕ) (cols : List Column) (from n : ℕ) (before
   pub says : (p : ℕ) (rs : List (List Field)) → length rs ≡ n → from ≡ rowStart s cols p → RowsStand s cols p rs
       → after ≡ written (flatten rs) before
 
--- the page of an accepted block from row p on
-pub record BlockListed (s : List ℕ) (cols : List Column) (p room given : ℕ) (before after : List ℕ) : Type 0 where
-  pub gives : (rs : List (List Field)) → block cols s ≡ found rs → given ≡ pageOf (length cols) rs p room .given
-  pub holds : (rs : List (List Field)) → block cols s ≡ found rs
-      → after ≡ written (pageOf (length cols) rs p room .fields) before
+-- the page of an accepted block of so many rows from row p on
+pub record BlockListed (s : List ℕ) (cols : List Column) (rows p room given : ℕ) (before after : List ℕ) : Type 0 where
+  pub says : (rs : List (List Field)) → block cols s ≡ found rs → length rs ≡ rows
+      → (given ≡ pageOf (length cols) rs p room .given)
+      × (after ≡ written (pageOf (length cols) rs p room .fields) before)

@@ -15,7 +15,7 @@ use value_list::Run;
 // How the values of each column are stored, in the order of the columns.
 fn storages_of(sc: Schema) -> [Storage; 64]
     requires { ⌜ (sc .count ≤ 64) × (length (sc .columns) ≡ 64) ⌝ }
-    ensures { λ r. ⌜ take (sc .count) r ≡ map rowStorage (columnsOf sc) ⌝ }
+    ensures { λ r. ⌜ (take (sc .count) r ≡ map rowStorage (columnsOf sc)) × (sc .count ≤ length r) ⌝ }
 {
     let n = sc.count;
     let mut storages = [Storage::Boolean; 64];
@@ -38,7 +38,7 @@ fn list_row(
     list: &mut [u64],
     k: usize,
 ) -> usize
-    requires { ⌜ (n ≤ 64) × (k + 3 * n ≤ length (now list)) ⌝ }
+    requires { ⌜ (n ≤ 64) × (n ≤ length storages) × (k + 3 * n ≤ length (now list)) ⌝ }
     ensures { λ r. ⌜ RowListed (now (s .entry)) (take n storages) at k (now (list .entry)) (now (list .exit)) r ⌝ }
 {
     let w = (n + 7) / 8;
@@ -75,7 +75,7 @@ fn list_rows(s: &[u8], sc: Schema, from: usize, given: usize, list: &mut [u64])
 // The rows of an accepted block of so many rows, from place on: how many were listed.
 fn list_block(s: &[u8], sc: Schema, rows: usize, place: usize, list: &mut [u64]) -> usize
     requires { ⌜ (1 ≤ sc .count) × (sc .count ≤ 64) × (length (sc .columns) ≡ 64) × (rows ≤ 65536) × (4 * rows + 4 ≤ length (now s)) ⌝ }
-    ensures { λ r. ⌜ BlockListed (now (s .entry)) (columnsOf sc) place (length (now (list .entry))) r (now (list .entry)) (now (list .exit)) ⌝ }
+    ensures { λ r. ⌜ BlockListed (now (s .entry)) (columnsOf sc) rows place (length (now (list .entry))) r (now (list .entry)) (now (list .exit)) × (r ≤ rows) ⌝ }
 {
     let given = value_list::rows_given(rows, place, list.len() / (3 * sc.count));
     if given == 0 {

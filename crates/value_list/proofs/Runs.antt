@@ -14,7 +14,7 @@ use Rattle.row_spec.specs.Page.{listed, numbersOf, written}
 use Rattle.row_spec.specs.declared.Field.{Field}
 use Rattle.row_spec.specs.declared.Field.the-variants.{Null}
 use Rattle.row_spec.specs.declared.Storage.{Storage}
-use Rattle.row_laws.proofs.Pages.{listed-length, numbers-length, numbers-append}
+use Rattle.row_laws.proofs.Pages.{numbers-length, numbers-append}
 use Rattle.value_list.specs.declared.Cell.{Cell}
 use Rattle.value_list.specs.declared.Run.{Run}
 use Rattle.value_list.specs.Cell.{numbersIn, Holds, Puts, runAt, storedAs, Stand, Ran}

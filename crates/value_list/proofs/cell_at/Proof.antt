@@ -1,20 +1,10 @@
 -- Case by case, by how the value is stored. Assumes nothing.
 use Rattle.row_spec.specs.Value.{storedAt}
 use Rattle.value_list.proofs.Stored.{boolean-holds, whole-holds, long-holds, float-holds, double-holds, time-holds}
-use mathlib.Core.Path.{_≡_, refl, sym, ap, _∙_}
-use Prim.Native.Nat.{ℕ, zero, suc, _+_, _-_, _*_, _≤_, _<_}
-use native.Mathlib.Omega.{arith}
-use lib.ListN.{length, getD}
+use Prim.Native.Nat.{_-_}
 use borrow.Author.Needs.{needs}
 use Rattle.value_list.proofs.cell_at.Statement.{statement}
 use Rattle.value_list.proofs.cell_at.Tie as tie
-use Rattle.value_list.proofs.cell_at.Reads as reads
-use Rattle.value_list.proofs.cell_at.Lts as lts
-use Rattle.value_list.proofs.sized_cell.Reads as sized-cell-reads
-use Rattle.value_list.proofs.time_fixed_cell.Reads as time-fixed-cell-reads
-use Rattle.value_list.proofs.time_varint_cell.Reads as time-varint-cell-reads
-use Rattle.value_list.proofs.whole_cell.Reads as whole-cell-reads
-use Rattle.value_list.proofs.word_cell.Reads as word-cell-reads
 
 -- src/lib.rt:151:29
 enum-told : tie.Need-enum-told

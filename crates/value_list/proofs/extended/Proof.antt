@@ -1,14 +1,11 @@
 -- Below half the number is itself; from half on it lacks 2 * half, which 64 bits add up to. Assumes nothing.
 use Rattle.row_laws.proofs.TwosComplement.{unsigned-below, unsigned-above}
-use mathlib.Core.Path.{_≡_, refl, sym, ap, _∙_}
-use Prim.Native.Nat.{ℕ, zero, suc, _+_, _-_, _*_, _≤_, _<_}
+use mathlib.Core.Path.{sym, _∙_}
+use Prim.Native.Nat.{_-_}
 use native.Mathlib.Omega.{arith}
-use lib.ListN.{length, getD}
 use borrow.Author.Needs.{needs}
 use Rattle.value_list.proofs.extended.Statement.{statement}
 use Rattle.value_list.proofs.extended.Tie as tie
-use Rattle.value_list.proofs.extended.Reads as reads
-use Rattle.value_list.proofs.extended.Lts as lts
 
 -- src/lib.rt:68:9
 returns : tie.Need-returns

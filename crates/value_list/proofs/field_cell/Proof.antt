@@ -4,17 +4,11 @@ use Rattle.row_spec.specs.declared.Field.the-variants.{Null}
 use Rattle.value_list.specs.declared.Cell.{Cell}
 use Rattle.value_list.specs.Cell.{numbersIn}
 use Rattle.value_list.proofs.Stored.{read-holds}
-use mathlib.Core.Path.{_≡_, refl, sym, ap, _∙_}
-use Prim.Native.Nat.{ℕ, zero, suc, _+_, _-_, _*_, _≤_, _<_}
-use native.Mathlib.Omega.{arith}
-use lib.ListN.{length, getD}
+use mathlib.Core.Path.{ap}
+use Prim.Native.Nat.{_-_}
 use borrow.Author.Needs.{needs}
 use Rattle.value_list.proofs.field_cell.Statement.{statement}
 use Rattle.value_list.proofs.field_cell.Tie as tie
-use Rattle.value_list.proofs.field_cell.Reads as reads
-use Rattle.value_list.proofs.field_cell.Lts as lts
-use Rattle.value_list.proofs.cell_at.Reads as cell-at-reads
-use Rattle.value_list.proofs.cell_of.Reads as cell-of-reads
 
 -- src/lib.rt:182:9
 cell-of-requires : tie.Need-cell-of-requires

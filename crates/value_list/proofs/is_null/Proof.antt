@@ -1,14 +1,8 @@
 -- With null bits, whether the bit is 1; without, nothing is null. Assumes nothing.
-use mathlib.Core.Path.{_≡_, refl, sym, ap, _∙_}
-use Prim.Native.Nat.{ℕ, zero, suc, _+_, _-_, _*_, _≤_, _<_}
-use native.Mathlib.Omega.{arith}
-use lib.ListN.{length, getD}
+use Prim.Native.Nat.{_-_}
 use borrow.Author.Needs.{needs}
 use Rattle.value_list.proofs.is_null.Statement.{statement}
 use Rattle.value_list.proofs.is_null.Tie as tie
-use Rattle.value_list.proofs.is_null.Reads as reads
-use Rattle.value_list.proofs.is_null.Lts as lts
-use Rattle.numbers.proofs.bit_at.Reads as bit-at-reads
 
 -- src/lib.rt:172:16
 bit-at-requires : tie.Need-bit-at-requires

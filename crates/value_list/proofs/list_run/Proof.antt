@@ -2,18 +2,12 @@
 
 use Rattle.value_list.proofs.Runs.{Upto, upto-none, upto-more, upto-all, storage-there}
 use borrow.Author.Needs.{needs}
-use mathlib.Core.Path.{_≡_, refl, sym, ap, _∙_}
-use Prim.Native.Nat.{ℕ, zero, suc, _+_, _-_, _*_, _≤_, _<_}
+use mathlib.Core.Path.{_≡_, refl, _∙_}
+use Prim.Native.Nat.{_-_, _≤_}
 use native.Mathlib.Omega.{arith}
-use lib.ListN.{length, getD}
+use lib.ListN.{length}
 use Rattle.value_list.proofs.list_run.Statement.{statement}
 use Rattle.value_list.proofs.list_run.Tie as tie
-use Rattle.value_list.proofs.list_run.Reads as reads
-use Rattle.value_list.proofs.list_run.Lts as lts
-use Rattle.value_list.proofs.field_cell.Reads as field-cell-reads
-use Rattle.value_list.proofs.is_null.Reads as is-null-reads
-use Rattle.value_list.proofs.put_cell.Reads as put-cell-reads
-use Rattle.value_list.proofs.which.Reads as which-reads
 
 abbrev Inv-loop : tie.InvT-loop
 Inv-loop s run n from list₀ k storages at₀ m₀ list at m = (m ≤ n) × (length list ≡ length list₀) × Upto s storages run n from k list₀ m list at

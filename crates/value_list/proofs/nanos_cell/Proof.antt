@@ -1,16 +1,10 @@
 -- By what was read as the nanoseconds. Assumes nothing.
 use Rattle.row_spec.specs.Value.{nanosOf}
 use Rattle.value_list.proofs.Stored.{cut-holds, bad-holds, nanos-holds}
-use mathlib.Core.Path.{_≡_, refl, sym, ap, _∙_}
-use Prim.Native.Nat.{ℕ, zero, suc, _+_, _-_, _*_, _≤_, _<_}
-use native.Mathlib.Omega.{arith}
-use lib.ListN.{length, getD}
+use Prim.Native.Nat.{_-_}
 use borrow.Author.Needs.{needs}
 use Rattle.value_list.proofs.nanos_cell.Statement.{statement}
 use Rattle.value_list.proofs.nanos_cell.Tie as tie
-use Rattle.value_list.proofs.nanos_cell.Reads as reads
-use Rattle.value_list.proofs.nanos_cell.Lts as lts
-use Rattle.value_list.proofs.cell_of.Reads as cell-of-reads
 
 -- src/lib.rt:119:29
 enum-told : tie.Need-enum-told

@@ -1,19 +1,14 @@
 -- By what was read as the length: with room, the place behind it. Assumes nothing.
 use borrow.Author.Tests.{leb-true}
-use mathlib.Core.Bool.{true}
 use Rattle.row_spec.specs.Value.{sizedOf}
 use Rattle.value_list.proofs.Stored.{cut-holds, bad-holds, place-holds, not-there}
-use mathlib.Core.Path.{_≡_, refl, sym, ap, _∙_}
-use Prim.Native.Nat.{ℕ, zero, suc, _+_, _-_, _*_, _≤_, _<_}
+use mathlib.Core.Path.{sym, _∙_}
+use Prim.Native.Nat.{_+_, _-_}
 use native.Mathlib.Omega.{arith}
-use lib.ListN.{length, getD}
+use lib.ListN.{length}
 use borrow.Author.Needs.{needs}
 use Rattle.value_list.proofs.place_cell.Statement.{statement}
 use Rattle.value_list.proofs.place_cell.Tie as tie
-use Rattle.value_list.proofs.place_cell.Reads as reads
-use Rattle.value_list.proofs.place_cell.Lts as lts
-use Rattle.numbers.proofs.has.Reads as has-reads
-use Rattle.value_list.proofs.cell_of.Reads as cell-of-reads
 
 -- src/lib.rt:89:29
 enum-told : tie.Need-enum-told
@@ -88,7 +83,10 @@ returns-4 : tie.Need-returns-4
 returns-4 c =
     let args = c .before .before .before .before .before .before .before .args in
     let r = c .before .before .before .before .r in
-    λ least. rw (r .given .1) (place-holds (args .s .now) least _ _ _ _ (λ e. not-there (c .before .before .has .ensures) (c .before .if1 .left) e))
+    λ least.
+    rw (r .given .1)
+    (place-holds (args .s .now) least _ _ _ _
+    (λ e. not-there (c .before .before .has .ensures) (c .before .if1 .left) e))
 
 pub place-cell-spec : {M : Type 1} → statement M
 place-cell-spec =

@@ -1,15 +1,11 @@
 -- Three stores one after the other are the three numbers behind what is there. Assumes nothing.
-use lib.ListN.{length, getD, set, length-set}
+use lib.ListN.{set, length-set}
 use Rattle.value_list.proofs.Runs.{put-more}
-use mathlib.Core.Path.{_≡_, refl, sym, ap, _∙_}
-use Prim.Native.Nat.{ℕ, zero, suc, _+_, _-_, _*_, _≤_, _<_}
+use Prim.Native.Nat.{_+_, _-_}
 use native.Mathlib.Omega.{arith}
-use lib.ListN.{length, getD}
 use borrow.Author.Needs.{needs}
 use Rattle.value_list.proofs.put_cell.Statement.{statement}
 use Rattle.value_list.proofs.put_cell.Tie as tie
-use Rattle.value_list.proofs.put_cell.Reads as reads
-use Rattle.value_list.proofs.put_cell.Lts as lts
 
 -- src/lib.rt:192:5
 mul-list : tie.Need-mul-list

@@ -1,17 +1,10 @@
 -- A first byte below 128 is the whole number; else the number is read. Assumes nothing.
 use Rattle.row_laws.proofs.Varints.{one-group}
-use mathlib.Core.Path.{_≡_, refl, sym, ap, _∙_}
-use Prim.Native.Nat.{ℕ, zero, suc, _+_, _-_, _*_, _≤_, _<_}
+use Prim.Native.Nat.{_-_}
 use native.Mathlib.Omega.{arith}
-use lib.ListN.{length, getD}
 use borrow.Author.Needs.{needs}
 use Rattle.value_list.proofs.sized_cell.Statement.{statement}
 use Rattle.value_list.proofs.sized_cell.Tie as tie
-use Rattle.value_list.proofs.sized_cell.Reads as reads
-use Rattle.value_list.proofs.sized_cell.Lts as lts
-use Rattle.numbers.proofs.varint.Reads as varint-reads
-use Rattle.numbers.proofs.wide.Reads as wide-reads
-use Rattle.value_list.proofs.place_cell.Reads as place-cell-reads
 
 -- src/lib.rt:106:22
 shared-slice-read-wide : tie.Need-shared-slice-read-wide

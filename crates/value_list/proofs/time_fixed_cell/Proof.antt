@@ -2,19 +2,13 @@
 use borrow.Author.Tests.{leb-true}
 use Rattle.row_spec.specs.Value.{storedAt}
 use Rattle.value_list.proofs.Stored.{room-holds, not-there}
-use mathlib.Core.Path.{_≡_, refl, sym, ap, _∙_}
-use Prim.Native.Nat.{ℕ, zero, suc, _+_, _-_, _*_, _≤_, _<_}
+use mathlib.Core.Path.{sym, _∙_}
+use Prim.Native.Nat.{_+_, _-_}
 use native.Mathlib.Omega.{arith}
-use lib.ListN.{length, getD}
+use lib.ListN.{length}
 use borrow.Author.Needs.{needs}
 use Rattle.value_list.proofs.time_fixed_cell.Statement.{statement}
 use Rattle.value_list.proofs.time_fixed_cell.Tie as tie
-use Rattle.value_list.proofs.time_fixed_cell.Reads as reads
-use Rattle.value_list.proofs.time_fixed_cell.Lts as lts
-use Rattle.numbers.proofs.has.Reads as has-reads
-use Rattle.numbers.proofs.word.Reads as word-reads
-use Rattle.value_list.proofs.cell_of.Reads as cell-of-reads
-use Rattle.value_list.proofs.nanos_cell.Reads as nanos-cell-reads
 
 -- src/lib.rt:139:8
 has-requires : tie.Need-has-requires
@@ -78,7 +72,8 @@ returns-2 : tie.Need-returns-2
 unfolding storedAt
 returns-2 c =
     let args = c .before .before .before .before .args in
-    room-holds _ (args .s .now) (args .at) 12 _ (λ e. not-there (c .before .before .has .ensures) (c .before .if1 .left) e)
+    room-holds _ (args .s .now) (args .at) 12 _
+    (λ e. not-there (c .before .before .has .ensures) (c .before .if1 .left) e)
 
 pub time-fixed-cell-spec : {M : Type 1} → statement M
 time-fixed-cell-spec =

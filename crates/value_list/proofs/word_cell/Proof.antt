@@ -1,20 +1,14 @@
 -- With room, the number of the bytes; without it nothing is promised. Assumes nothing.
 use borrow.Author.Tests.{leb-true}
-use Rattle.row_spec.specs.Value.{wordAt}
 use Rattle.value_list.proofs.Stored.{not-there}
 use Rattle.value_list.specs.Cell.{cellOf}
-use mathlib.Core.Path.{_≡_, refl, sym, ap, _∙_}
-use Prim.Native.Nat.{ℕ, zero, suc, _+_, _-_, _*_, _≤_, _<_}
+use mathlib.Core.Path.{sym, ap, _∙_}
+use Prim.Native.Nat.{ℕ, _+_, _-_}
 use native.Mathlib.Omega.{arith}
-use lib.ListN.{length, getD}
+use lib.ListN.{length}
 use borrow.Author.Needs.{needs}
 use Rattle.value_list.proofs.word_cell.Statement.{statement}
 use Rattle.value_list.proofs.word_cell.Tie as tie
-use Rattle.value_list.proofs.word_cell.Reads as reads
-use Rattle.value_list.proofs.word_cell.Lts as lts
-use Rattle.numbers.proofs.has.Reads as has-reads
-use Rattle.numbers.proofs.word.Reads as word-reads
-use Rattle.value_list.proofs.cell_of.Reads as cell-of-reads
 
 -- src/lib.rt:56:8
 has-requires : tie.Need-has-requires
