@@ -2,7 +2,8 @@
 
 use super::schema::{self, Column, Type};
 use super::varint::{self, Fault};
-use super::{Answer, Refusal, MAX_BYTES, MAX_ROWS};
+use super::{page_rows, Answer, Refusal, MAX_BYTES, MAX_ROWS};
+use std::iter::{from_fn, repeat};
 
 #[derive(Clone, Copy, PartialEq, Eq)]
 enum Encoding {
@@ -63,7 +64,38 @@ impl<'a> Bucket<'a> {
         let Some(place) = self.value_place(parts, self.columns[column].kind, row)? else {
             return Ok(Answer::Null);
         };
-        Ok(read_value(self.columns[column].kind, self.bytes, place)?.0)
+        Ok(by_type(self.columns[column].kind, One { bytes: self.bytes, place }))
+    }
+
+    /// Fills the list from its start with the column's fields in the rows from the place on, as many as
+    /// it takes, and says how many.
+    pub fn page(&self, column: u32, place: u32, list: &mut [u64]) -> Result<u32, Refusal> {
+        let parts = self.parts.get(column as usize).ok_or(25u32)?;
+        let given = page_rows(self.rows, place, list.len(), 3);
+        if given > 0 {
+            let (fields, _) = list[..3 * given].as_chunks_mut();
+            self.fill(parts, self.columns[column as usize].kind, place as usize, fields);
+        }
+        Ok(given as u32)
+    }
+
+    /// The column's fields from the row on, which the bucket has.
+    fn fill(&self, parts: &Parts, kind: Type, row: usize, fields: &mut [[u64; 3]]) {
+        let bytes = self.bytes;
+        let nulls = parts.nulls.map(|start| &bytes[start..]);
+        let before = row - nulls.map_or(0, |nulls| ones_below(nulls, row));
+        let page = Page { nulls, row, fields };
+        let numbers = |&place: &usize| by_type(kind, One { bytes, place }).numbers();
+        match parts.encoding {
+            Encoding::AllNull => page.fields.fill(Answer::Null.numbers()),
+            Encoding::Const => page.fill(repeat(numbers(&parts.values[0]))),
+            Encoding::Dict => {
+                let table: Vec<[u64; 3]> = parts.values.iter().map(numbers).collect();
+                let (indexes, width) = (&bytes[parts.data..], index_width(table.len()));
+                page.fill((before..).map(|index| table[packed_index(indexes, width, index)]));
+            }
+            Encoding::Plain => by_type(kind, Plain { bytes, data: parts.data, before, page }),
+        }
     }
 
     /// Where the value of the row starts; nothing if it is null.
@@ -115,6 +147,18 @@ pub fn field(
     column: u32,
 ) -> Result<Answer, Refusal> {
     Bucket::judge(schema, rows, bucket)?.field(row, column)
+}
+
+/// A page of the column: how many rows it gives.
+pub fn page(
+    schema: &[u8],
+    rows: u32,
+    bucket: &[u8],
+    column: u32,
+    place: u32,
+    list: &mut [u64],
+) -> Result<u32, Refusal> {
+    Bucket::judge(schema, rows, bucket)?.page(column, place, list)
 }
 
 struct Reader<'a> {
@@ -357,34 +401,112 @@ fn counted(kind: Type, bytes: &[u8], place: usize) -> Result<(usize, usize), Ref
     Ok((start, length as usize))
 }
 
-/// The answer of the value at the place, and where the value ends.
-fn read_value(kind: Type, bytes: &[u8], place: usize) -> Result<(Answer, usize), Refusal> {
-    let end = value_end(kind, bytes, place)?;
-    let value = &bytes[place..end];
-    let answer = match kind {
-        Type::Boolean => Answer::YesNo(value[0] == 1),
-        Type::TinyInt | Type::SmallInt | Type::Integer | Type::Date | Type::Time { .. } => {
-            Answer::Whole(signed(value))
-        }
-        Type::BigInt | Type::Decimal { precision: 0..=18, .. } => Answer::Whole(signed(value)),
-        Type::Float => Answer::Float(signed(value) as u32),
-        Type::Double => Answer::Double(signed(value) as u64),
-        Type::Timestamp { precision } => Answer::Time {
-            count: signed(&value[..8]),
-            nanos: if precision > 6 { nanoseconds(value) } else { 0 },
-        },
-        _ => {
-            let (start, length) = counted(kind, bytes, place)?;
-            Answer::Place { start, length }
-        }
-    };
-    Ok((answer, end))
+/// Something done with sound values of one type: each of W bytes, or each with a length before it.
+trait Values: Sized {
+    type Done;
+    fn fixed<const W: usize>(self, answer: impl Fn([u8; W]) -> Answer) -> Self::Done;
+    fn counted(self) -> Self::Done;
 }
 
-/// A signed number, big endian, of 1 to 8 bytes.
-fn signed(value: &[u8]) -> i64 {
-    let first = if value[0] >= 0x80 { -1 } else { 0 };
-    value.iter().fold(first, |number, &byte| number << 8 | i64::from(byte))
+/// Does it with values of this type.
+fn by_type<V: Values>(kind: Type, values: V) -> V::Done {
+    match kind {
+        Type::Boolean => values.fixed(|[byte]| Answer::YesNo(byte == 1)),
+        Type::TinyInt => values.fixed(|value| Answer::Whole(i8::from_be_bytes(value).into())),
+        Type::SmallInt => values.fixed(|value| Answer::Whole(i16::from_be_bytes(value).into())),
+        Type::Integer | Type::Date | Type::Time { .. } => {
+            values.fixed(|value| Answer::Whole(i32::from_be_bytes(value).into()))
+        }
+        Type::BigInt | Type::Decimal { precision: 0..=18, .. } => {
+            values.fixed(|value| Answer::Whole(i64::from_be_bytes(value)))
+        }
+        Type::Float => values.fixed(|value| Answer::Float(u32::from_be_bytes(value))),
+        Type::Double => values.fixed(|value| Answer::Double(u64::from_be_bytes(value))),
+        Type::Timestamp { precision: 0..=6 } => {
+            values.fixed(|value| Answer::Time { count: i64::from_be_bytes(value), nanos: 0 })
+        }
+        Type::Timestamp { .. } => values.fixed(|value: [u8; 12]| Answer::Time {
+            count: i64::from_be_bytes(*value.first_chunk().unwrap()),
+            nanos: nanoseconds(&value),
+        }),
+        _ => values.counted(),
+    }
+}
+
+/// Start and length of a sound value with a length, which lies at the place.
+fn sound_counted(bytes: &[u8], place: usize) -> (usize, usize) {
+    counted(Type::Bytes, bytes, place).expect("a sound value")
+}
+
+/// The answer of one value.
+struct One<'a> {
+    bytes: &'a [u8],
+    place: usize,
+}
+
+impl Values for One<'_> {
+    type Done = Answer;
+
+    fn fixed<const W: usize>(self, answer: impl Fn([u8; W]) -> Answer) -> Answer {
+        answer(*self.bytes[self.place..].first_chunk().expect("a sound value"))
+    }
+
+    fn counted(self) -> Answer {
+        let (start, length) = sound_counted(self.bytes, self.place);
+        Answer::Place { start, length }
+    }
+}
+
+/// The fields of one column from a row on.
+struct Page<'a> {
+    nulls: Option<&'a [u8]>,
+    row: usize,
+    fields: &'a mut [[u64; 3]],
+}
+
+impl Page<'_> {
+    /// Fills the rows that are not null with these values, in order.
+    fn fill(self, mut values: impl Iterator<Item = [u64; 3]>) {
+        let mut next = || values.next().expect("a value for each row");
+        let Some(nulls) = self.nulls else {
+            self.fields.iter_mut().for_each(|field| *field = next());
+            return;
+        };
+        for (row, field) in (self.row..).zip(self.fields) {
+            let null = nulls[row / 8] >> (row % 8) & 1 == 1;
+            *field = if null { Answer::Null.numbers() } else { next() };
+        }
+    }
+}
+
+/// A page of plain values: of those at `data`, from value number `before` on.
+struct Plain<'a> {
+    bytes: &'a [u8],
+    data: usize,
+    before: usize,
+    page: Page<'a>,
+}
+
+impl Values for Plain<'_> {
+    type Done = ();
+
+    fn fixed<const W: usize>(self, answer: impl Fn([u8; W]) -> Answer) {
+        let (values, _) = self.bytes[self.data + W * self.before..].as_chunks();
+        self.page.fill(values.iter().map(|&value| answer(value).numbers()));
+    }
+
+    fn counted(self) {
+        let mut place = self.data;
+        let mut next = || {
+            let (start, length) = sound_counted(self.bytes, place);
+            place = start + length;
+            Some(Answer::Place { start, length }.numbers())
+        };
+        for _ in 0..self.before {
+            next();
+        }
+        self.page.fill(from_fn(next));
+    }
 }
 
 #[cfg(test)]

@@ -43,3 +43,25 @@ pub enum Answer {
         length: usize,
     },
 }
+
+impl Answer {
+    /// The three numbers of a field in a page: the number of its kind, and what it shows.
+    #[inline(always)]
+    pub fn numbers(self) -> [u64; 3] {
+        match self {
+            Answer::Null => [0, 0, 0],
+            Answer::YesNo(yes) => [1, yes.into(), 0],
+            Answer::Whole(whole) => [2, whole as u64, 0],
+            Answer::Float(bits) => [3, bits.into(), 0],
+            Answer::Double(bits) => [4, bits, 0],
+            Answer::Time { count, nanos } => [5, count as u64, nanos.into()],
+            Answer::Place { start, length } => [6, start as u64, length as u64],
+        }
+    }
+}
+
+/// How many rows a page gives: those from the place on, as many as the room takes; each takes so many
+/// numbers.
+fn page_rows(rows: usize, place: u32, room: usize, numbers: usize) -> usize {
+    rows.saturating_sub(place as usize).min(room / numbers)
+}

@@ -1,7 +1,7 @@
 //! Row blocks: rows, one 4-byte offset a row, a 4-byte row count, little endian.
 
 use super::schema::{self, Column, Type};
-use super::{varint, Answer, Refusal, MAX_BYTES, MAX_ROWS};
+use super::{page_rows, varint, Answer, Refusal, MAX_BYTES, MAX_ROWS};
 
 /// An accepted block.
 pub struct Block<'a> {
@@ -54,6 +54,20 @@ impl<'a> Block<'a> {
         self.walk(self.offset(row), column).ok_or(24)
     }
 
+    /// Fills the list from its start with the fields of the rows from the place on, as many whole rows
+    /// as it takes, and says how many.
+    pub fn page(&self, place: u32, list: &mut [u64]) -> u32 {
+        let numbers = 3 * self.columns.len();
+        let given = page_rows(self.rows, place, list.len(), numbers);
+        if given > 0 {
+            let mut start = self.offset(place as usize);
+            for row in list.chunks_exact_mut(numbers).take(given) {
+                start = self.fill_row(start, row).expect("a sound row");
+            }
+        }
+        given as u32
+    }
+
     fn offset(&self, row: usize) -> usize {
         number_at(self.bytes, self.rows_end + 4 * row) as usize
     }
@@ -94,7 +108,24 @@ impl<'a> Block<'a> {
                 place = field_end(before.kind, bytes, place)?;
             }
         }
-        field_answer(self.columns[column].kind, bytes, place)
+        Some(read_field(self.columns[column].kind, bytes, place)?.0)
+    }
+
+    /// Fills the list with the fields of the row that starts at the place, and says where it ends.
+    fn fill_row(&self, start: usize, list: &mut [u64]) -> Option<usize> {
+        let bytes = &self.bytes[..self.rows_end];
+        let (nulls, mut place) = self.null_bitmap(start)?;
+        let (fields, _) = list.as_chunks_mut();
+        for (i, (column, field)) in self.columns.iter().zip(fields).enumerate() {
+            *field = if null_at(nulls, i) {
+                Answer::Null.numbers()
+            } else {
+                let (answer, end) = read_field(column.kind, bytes, place)?;
+                place = end;
+                answer.numbers()
+            };
+        }
+        Some(place)
     }
 }
 
@@ -104,6 +135,17 @@ pub fn check(schema: &[u8], block: &[u8]) -> Result<u32, Refusal> {
 
 pub fn field(schema: &[u8], block: &[u8], row: u32, column: u32) -> Result<Answer, Refusal> {
     Block::judge(schema, block)?.field(row, column)
+}
+
+/// A page of the block: how many rows it gives, and how many the block has.
+pub fn page(
+    schema: &[u8],
+    block: &[u8],
+    place: u32,
+    list: &mut [u64],
+) -> Result<(u32, u32), Refusal> {
+    let block = Block::judge(schema, block)?;
+    Ok((block.page(place, list), block.rows as u32))
 }
 
 fn number_at(bytes: &[u8], place: usize) -> u32 {
@@ -163,27 +205,32 @@ fn counted(kind: Type, bytes: &[u8], place: usize) -> Option<(usize, usize)> {
     Some((start, length as usize))
 }
 
-fn field_answer(kind: Type, bytes: &[u8], place: usize) -> Option<Answer> {
+/// The field at the place, and the place after it.
+#[inline(always)]
+fn read_field(kind: Type, bytes: &[u8], place: usize) -> Option<(Answer, usize)> {
     Some(match kind {
-        Type::Boolean => Answer::YesNo(*bytes.get(place)? == 1),
-        Type::TinyInt => Answer::Whole(i8::from_le_bytes(fixed(bytes, place)?).into()),
-        Type::SmallInt => Answer::Whole(i16::from_le_bytes(fixed(bytes, place)?).into()),
+        Type::Boolean => (Answer::YesNo(*bytes.get(place)? == 1), place + 1),
+        Type::TinyInt => (Answer::Whole(i8::from_le_bytes(fixed(bytes, place)?).into()), place + 1),
+        Type::SmallInt => {
+            (Answer::Whole(i16::from_le_bytes(fixed(bytes, place)?).into()), place + 2)
+        }
         Type::Integer | Type::Date | Type::Time { .. } => {
-            Answer::Whole(i32::from_le_bytes(fixed(bytes, place)?).into())
+            (Answer::Whole(i32::from_le_bytes(fixed(bytes, place)?).into()), place + 4)
         }
         Type::BigInt | Type::Decimal { precision: 0..=18, .. } => {
-            Answer::Whole(i64::from_le_bytes(fixed(bytes, place)?))
+            (Answer::Whole(i64::from_le_bytes(fixed(bytes, place)?)), place + 8)
         }
-        Type::Float => Answer::Float(u32::from_le_bytes(fixed(bytes, place)?)),
-        Type::Double => Answer::Double(u64::from_le_bytes(fixed(bytes, place)?)),
+        Type::Float => (Answer::Float(u32::from_le_bytes(fixed(bytes, place)?)), place + 4),
+        Type::Double => (Answer::Double(u64::from_le_bytes(fixed(bytes, place)?)), place + 8),
         Type::Timestamp { precision } => {
             let count = i64::from_le_bytes(fixed(bytes, place)?);
-            let nanos = if precision > 3 { nanoseconds(bytes, place + 8)?.0 } else { 0 };
-            Answer::Time { count, nanos }
+            let (nanos, end) =
+                if precision > 3 { nanoseconds(bytes, place + 8)? } else { (0, place + 8) };
+            (Answer::Time { count, nanos }, end)
         }
         _ => {
             let (start, length) = counted(kind, bytes, place)?;
-            Answer::Place { start, length }
+            (Answer::Place { start, length }, start + length)
         }
     })
 }
