@@ -623,19 +623,17 @@ pub struct Field {
 impl From<crate::reference::Answer> for Field {
     fn from(answer: crate::reference::Answer) -> Field {
         use crate::reference::Answer;
-        let mut field = Field { kind: 0, whole: 0, bits: 0, nanos: 0, start: 0, length: 0 };
+        let [kind, _, _] = answer.numbers();
+        let mut field =
+            Field { kind: kind as u8, whole: 0, bits: 0, nanos: 0, start: 0, length: 0 };
         match answer {
             Answer::Null => {}
-            Answer::YesNo(yes) => (field.kind, field.whole) = (1, yes.into()),
-            Answer::Whole(whole) => (field.kind, field.whole) = (2, whole),
-            Answer::Float(bits) => (field.kind, field.bits) = (3, bits.into()),
-            Answer::Double(bits) => (field.kind, field.bits) = (4, bits),
-            Answer::Time { count, nanos } => {
-                (field.kind, field.whole, field.nanos) = (5, count, nanos)
-            }
-            Answer::Place { start, length } => {
-                (field.kind, field.start, field.length) = (6, start, length)
-            }
+            Answer::YesNo(yes) => field.whole = yes.into(),
+            Answer::Whole(whole) => field.whole = whole,
+            Answer::Float(bits) => field.bits = bits.into(),
+            Answer::Double(bits) => field.bits = bits,
+            Answer::Time { count, nanos } => (field.whole, field.nanos) = (count, nanos),
+            Answer::Place { start, length } => (field.start, field.length) = (start, length),
         }
         field
     }
@@ -694,6 +692,60 @@ fn field(
         start: start.value(),
         length: length.value(),
     })
+}
+
+/// What a page call leaves: its place, how many rows it gave, how many there are, and their numbers.
+#[cfg(any(feature = "rows", feature = "buckets"))]
+#[derive(Clone, Debug, PartialEq, Eq)]
+pub struct Page {
+    pub place: u32,
+    pub given: u32,
+    pub rows: u32,
+    pub list: Vec<u64>,
+}
+
+/// What a page call of blocks or buckets takes and sets alike.
+#[cfg(any(feature = "rows", feature = "buckets"))]
+struct LentPage {
+    place: Lent<u32>,
+    list: Lent<u64>,
+    given: Lent<u32>,
+}
+
+#[cfg(any(feature = "rows", feature = "buckets"))]
+impl LentPage {
+    fn new(place: u32, room: usize, random: &mut Random) -> LentPage {
+        LentPage {
+            place: Lent::scalar("place", place, random),
+            list: Lent::output("list", room, random),
+            given: Lent::output("given", 1, random),
+        }
+    }
+
+    /// What the call left, of whose list each row takes so many numbers. `rows` is read on success.
+    fn settle(
+        &self,
+        code: u32,
+        numbers: usize,
+        inputs: &[&dyn Memory],
+        others: &[(&dyn Memory, usize)],
+        rows: impl FnOnce() -> u32,
+    ) -> Called<Page> {
+        let mut count = 0;
+        if code == 0 {
+            let given = self.given.value() as usize;
+            count = within("given, in numbers", given * numbers, self.list.length)?;
+        }
+        let mut outputs: Vec<(&dyn Memory, usize)> =
+            vec![(&self.place, 1), (&self.list, count), (&self.given, 1)];
+        outputs.extend(others);
+        settle(code, inputs, &outputs, || Page {
+            place: self.place.value(),
+            given: self.given.value(),
+            rows: rows(),
+            list: self.list.content()[..count].to_vec(),
+        })
+    }
 }
 
 #[cfg(feature = "numbers")]
@@ -805,6 +857,17 @@ pub mod rows {
                 start: *mut usize,
                 length: *mut usize,
             ) -> u32;
+            pub fn bv_block_page(
+                schema: *const u8,
+                schema_len: usize,
+                block: *const u8,
+                block_len: usize,
+                place: *mut u32,
+                list: *mut u64,
+                room: usize,
+                given: *mut u32,
+                rows: *mut u32,
+            ) -> u32;
         }
     }
     pub use calls::*;
@@ -882,6 +945,33 @@ pub mod rows {
             )
         })
     }
+
+    /// A page of a block whose rows take so many numbers each.
+    pub fn block_page(
+        schema: &Lent<u8>,
+        block: &Lent<u8>,
+        numbers: usize,
+        place: u32,
+        room: usize,
+        random: &mut Random,
+    ) -> Called<Page> {
+        let mut page = LentPage::new(place, room, random);
+        let mut rows = Lent::output("rows", 1, random);
+        let code = unsafe {
+            bv_block_page(
+                schema.pointer(),
+                schema.length,
+                block.pointer(),
+                block.length,
+                page.place.pointer_mut(),
+                page.list.pointer_mut(),
+                room,
+                page.given.pointer_mut(),
+                rows.pointer_mut(),
+            )
+        };
+        page.settle(code, numbers, &[schema, block], &[(&rows, 1)], || rows.value())
+    }
 }
 
 #[cfg(feature = "buckets")]
@@ -911,6 +1001,18 @@ pub mod buckets {
                 nanos: *mut u32,
                 start: *mut usize,
                 length: *mut usize,
+            ) -> u32;
+            pub fn bv_bucket_page(
+                schema: *const u8,
+                schema_len: usize,
+                rows: u32,
+                bucket: *const u8,
+                bucket_len: usize,
+                column: u32,
+                place: *mut u32,
+                list: *mut u64,
+                room: usize,
+                given: *mut u32,
             ) -> u32;
         }
     }
@@ -948,5 +1050,33 @@ pub mod buckets {
                 to.length,
             )
         })
+    }
+
+    /// A page of one column of a bucket of so many rows.
+    pub fn bucket_page(
+        schema: &Lent<u8>,
+        rows: u32,
+        bucket: &Lent<u8>,
+        column: u32,
+        place: u32,
+        room: usize,
+        random: &mut Random,
+    ) -> Called<Page> {
+        let mut page = LentPage::new(place, room, random);
+        let code = unsafe {
+            bv_bucket_page(
+                schema.pointer(),
+                schema.length,
+                rows,
+                bucket.pointer(),
+                bucket.length,
+                column,
+                page.place.pointer_mut(),
+                page.list.pointer_mut(),
+                room,
+                page.given.pointer_mut(),
+            )
+        };
+        page.settle(code, 3, &[schema, bucket], &[], || rows)
     }
 }

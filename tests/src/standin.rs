@@ -9,6 +9,7 @@ use std::sync::OnceLock;
 
 mod explain;
 mod numbers;
+mod pages;
 mod places;
 mod store;
 mod widths;

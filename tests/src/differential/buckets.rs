@@ -1,11 +1,12 @@
 //! Buckets.
 
+use super::pages::{compare_some, compare_whole, Listing};
 use super::{any_index, by_bytes, edge_number, hex, same, Tally};
-use crate::ffi::{buckets, Field, Lent};
+use crate::ffi::{buckets, Called, Field, Lent, Page};
 use crate::generate::buckets::{self as generate, Case};
 use crate::generate::Random;
 use crate::reference::buckets::Bucket;
-use crate::reference::schema;
+use crate::reference::{schema, Answer};
 
 pub fn run_case(case: u64, random: &mut Random, tally: &mut Tally) -> Result<(), String> {
     let case = match edge_number(case).and_then(generate::edge) {
@@ -44,7 +45,60 @@ pub fn run_case(case: u64, random: &mut Random, tally: &mut Tally) -> Result<(),
         let answer = buckets::bucket_field(&schema, rows, &bucket, row, column, random);
         same(question, answer, expected)?;
     }
+    let judged = judged.as_ref().map_err(|&refusal| refusal);
+    let lent = |column| LentColumn { schema: &schema, rows, bucket: &bucket, judged, column };
+    for _ in 0..if judged.is_ok() { 4 } else { 1 } {
+        compare_some(&lent(any_column(random, columns)), 1, random, tally)?;
+    }
+    if judged.is_ok() {
+        compare_whole(&lent(random.below(columns as usize) as u32), random)?;
+    }
     Ok(())
+}
+
+/// Mostly a column of the bucket, at times an absent one.
+fn any_column(random: &mut Random, columns: u32) -> u32 {
+    match random.below(8) {
+        0 => random.pick(&[columns, columns + 1, 63, 64, 255, 256, u32::MAX]),
+        _ => any_index(random, columns as usize),
+    }
+}
+
+/// One column, present or not, of a bucket that is listed by pages.
+struct LentColumn<'a> {
+    schema: &'a Lent<u8>,
+    rows: u32,
+    bucket: &'a Lent<u8>,
+    judged: Result<&'a Bucket<'a>, u32>,
+    column: u32,
+}
+
+impl Listing for LentColumn<'_> {
+    fn rows(&self) -> u32 {
+        self.rows
+    }
+
+    fn fields(&self) -> usize {
+        1
+    }
+
+    fn library(&self, place: u32, room: usize, random: &mut Random) -> Called<Page> {
+        buckets::bucket_page(self.schema, self.rows, self.bucket, self.column, place, room, random)
+    }
+
+    fn reference(&self, place: u32, list: &mut [u64]) -> Result<u32, u32> {
+        self.judged?.page(self.column, place, list)
+    }
+
+    fn field(&self, row: u32, _field: usize) -> Result<Answer, u32> {
+        self.judged?.field(row, self.column)
+    }
+
+    fn text(&self) -> String {
+        let (schema, bucket) = (hex(self.schema.content()), hex(self.bucket.content()));
+        let (rows, column) = (self.rows, self.column);
+        format!("\ncolumn {column}, rows {rows}, schema {schema}\nbucket {bucket}")
+    }
 }
 
 fn text(case: &Case) -> String {

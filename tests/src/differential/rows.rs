@@ -1,11 +1,12 @@
 //! Schemas and row blocks.
 
+use super::pages::{compare_some, compare_whole, Listing};
 use super::{any_index, by_bytes, edge_number, hex, same, Tally};
-use crate::ffi::{rows, Field, Lent};
+use crate::ffi::{rows, Called, Field, Lent, Page};
 use crate::generate::rows::{self as generate, Case};
 use crate::generate::{schema as generate_schema, Random};
 use crate::reference::rows::Block;
-use crate::reference::schema;
+use crate::reference::{schema, Answer};
 
 pub fn run_case(case: u64, random: &mut Random, tally: &mut Tally) -> Result<(), String> {
     let case = match edge_number(case).and_then(generate::edge) {
@@ -46,7 +47,55 @@ pub fn run_case(case: u64, random: &mut Random, tally: &mut Tally) -> Result<(),
         let question = || format!("block field, row {row}, column {column}{}", text(&case));
         same(question, rows::block_field(&schema, &block, row, column, random), expected)?;
     }
-    Ok(())
+    let (rows, fields) = (rows.unwrap_or(3), columns as usize);
+    let lent = LentBlock { schema: &schema, block: &block, judged: &judged, rows, fields };
+    if judged.is_err() {
+        return compare_some(&lent, 1, random, tally);
+    }
+    compare_some(&lent, 4, random, tally)?;
+    compare_whole(&lent, random)
+}
+
+/// A block that is listed by pages.
+struct LentBlock<'a> {
+    schema: &'a Lent<u8>,
+    block: &'a Lent<u8>,
+    judged: &'a Result<Block<'a>, u32>,
+    rows: u32,
+    fields: usize,
+}
+
+impl LentBlock<'_> {
+    fn judged(&self) -> Result<&Block<'_>, u32> {
+        self.judged.as_ref().map_err(|&refusal| refusal)
+    }
+}
+
+impl Listing for LentBlock<'_> {
+    fn rows(&self) -> u32 {
+        self.rows
+    }
+
+    fn fields(&self) -> usize {
+        self.fields
+    }
+
+    fn library(&self, place: u32, room: usize, random: &mut Random) -> Called<Page> {
+        rows::block_page(self.schema, self.block, 3 * self.fields, place, room, random)
+    }
+
+    fn reference(&self, place: u32, list: &mut [u64]) -> Result<u32, u32> {
+        Ok(self.judged()?.page(place, list))
+    }
+
+    fn field(&self, row: u32, field: usize) -> Result<Answer, u32> {
+        self.judged()?.field(row, field as u32)
+    }
+
+    fn text(&self) -> String {
+        let (schema, block) = (hex(self.schema.content()), hex(self.block.content()));
+        format!("\nschema {schema}\nblock {block}")
+    }
 }
 
 fn text(case: &Case) -> String {
