@@ -1,8 +1,63 @@
-//! The calls that list fields by pages, and their faults.
+//! The calls that list fields by pages, and wrong programs that list them.
 
-use super::{refuse, set};
+use super::{planted, set};
 use crate::reference::{buckets, rows};
 use std::slice::{from_raw_parts, from_raw_parts_mut};
+use std::sync::OnceLock;
+
+mod columns;
+mod fields;
+mod plans;
+mod refusals;
+
+/// The faults, with the group that must find each one.
+pub fn faults() -> Vec<(&'static str, String)> {
+    let both = plans::BOTH.iter().map(|(name, _)| *name);
+    let both = both.chain(fields::FAULTS.iter().map(|(name, _)| *name)).chain(refusals::BOTH);
+    let rows = plans::OF_BLOCKS.iter().map(|(name, _)| *name);
+    let rows = both.clone().chain(rows).chain(fields::OF_BLOCKS).chain(refusals::OF_BLOCKS);
+    let buckets = both.chain(refusals::OF_BUCKETS).chain(columns::faults());
+    let mut faults: Vec<(&str, String)> = refusals::numbers();
+    faults.extend(rows.map(|name| ("rows", name.to_string())));
+    faults.extend(buckets.map(|name| ("buckets", name.to_string())));
+    faults
+}
+
+/// Whether a fault of pages is planted.
+fn active() -> bool {
+    static ACTIVE: OnceLock<bool> = OnceLock::new();
+    *ACTIVE.get_or_init(|| faults().iter().any(|(_, name)| planted(name)))
+}
+
+/// What a page call sets. A bucket's has no number of rows.
+struct Outputs {
+    place: *mut u32,
+    list: *mut u64,
+    room: usize,
+    given: *mut u32,
+    rows: Option<*mut u32>,
+}
+
+impl Outputs {
+    unsafe fn list(&self) -> &'static mut [u64] {
+        from_raw_parts_mut(self.list, self.room)
+    }
+
+    unsafe fn set(&self, place: u32, given: u32, rows: u32) {
+        set(self.place, place);
+        set(self.given, given);
+        if let Some(to) = self.rows {
+            set(to, rows);
+        }
+    }
+}
+
+/// All rows of what is listed, each of so many numbers.
+struct Listed {
+    rows: u32,
+    numbers: usize,
+    all: Vec<u64>,
+}
 
 /// # Safety
 /// As include/barcovento.h says.
@@ -20,14 +75,19 @@ pub unsafe extern "C" fn bv_block_page(
 ) -> u32 {
     let schema = from_raw_parts(schema, schema_len);
     let block = from_raw_parts(block, block_len);
-    match rows::page(schema, block, *place, from_raw_parts_mut(list, room)) {
-        Ok((count, all)) => {
-            set(place, *place + count);
-            set(given, count);
-            set(rows, all);
+    let to = Outputs { place, list, room, given, rows: Some(rows) };
+    if active() {
+        return match fields::of_block(schema, block) {
+            Ok(listed) => plans::give(&to, &listed),
+            Err(number) => refusals::of_block(&to, number, schema, block),
+        };
+    }
+    match rows::page(schema, block, *place, to.list()) {
+        Ok((count, rows)) => {
+            to.set(*place + count, count, rows);
             0
         }
-        Err(number) => refuse(number),
+        Err(number) => super::refuse(number),
     }
 }
 
@@ -48,12 +108,19 @@ pub unsafe extern "C" fn bv_bucket_page(
 ) -> u32 {
     let schema = from_raw_parts(schema, schema_len);
     let bucket = from_raw_parts(bucket, bucket_len);
-    match buckets::page(schema, rows, bucket, column, *place, from_raw_parts_mut(list, room)) {
+    let to = Outputs { place, list, room, given, rows: None };
+    if active() {
+        let asked = columns::Asked { schema, rows, bucket, column, place: *place };
+        return match columns::listed(&asked) {
+            Ok(listed) => plans::give(&to, &listed),
+            Err(number) => refusals::of_bucket(&to, number, &asked),
+        };
+    }
+    match buckets::page(schema, rows, bucket, column, *place, to.list()) {
         Ok(count) => {
-            set(place, *place + count);
-            set(given, count);
+            to.set(*place + count, count, rows);
             0
         }
-        Err(number) => refuse(number),
+        Err(number) => super::refuse(number),
     }
 }
