@@ -525,10 +525,8 @@ mod tests {
         assert_eq!(field(&schema, 3, &bucket, 0, 1), Err(25));
     }
 
-    #[test]
-    fn encodings_with_nulls() {
-        // PLAIN VARCHAR, CONST SMALLINT, ALL_NULL DOUBLE, DICT TIMESTAMP(9); three rows.
-        let schema = [4, 9, 1, 5, 2, 1, 6, 1, 16, 1, 9];
+    /// PLAIN VARCHAR, CONST SMALLINT, ALL_NULL DOUBLE, DICT TIMESTAMP(9); three rows.
+    fn four_encodings() -> ([u8; 11], Vec<u8>) {
         let mut bucket = vec![4, 0, 0b10_11_01_00, 0b0011, 0xFF, 0xFE, 2];
         bucket.extend([0, 0, 0, 0, 0, 0, 0, 7, 0, 0, 0, 1]);
         bucket.extend([0xFF; 8]);
@@ -536,6 +534,12 @@ mod tests {
         bucket.extend([0b010, 0b001]);
         bucket.extend([1, b'x', 0]);
         bucket.push(0b101);
+        ([4, 9, 1, 5, 2, 1, 6, 1, 16, 1, 9], bucket)
+    }
+
+    #[test]
+    fn encodings_with_nulls() {
+        let (schema, bucket) = four_encodings();
         let ask = |row, column| field(&schema, 3, &bucket, row, column).unwrap();
         assert_eq!(ask(0, 0), Answer::Place { start: 34, length: 1 });
         assert_eq!(ask(1, 0), Answer::Null);
@@ -545,6 +549,45 @@ mod tests {
         assert_eq!(ask(1, 2), Answer::Null);
         assert_eq!(ask(0, 3), Answer::Time { count: -1, nanos: 999_999 });
         assert_eq!(ask(1, 3), Answer::Time { count: 7, nanos: 1 });
+    }
+
+    #[test]
+    fn pages_of_columns() {
+        let (schema, bucket) = four_encodings();
+        let time = [5, u64::MAX, 999_999];
+        let columns = [
+            [[6, 34, 1], [0; 3], [6, 36, 0]].concat(),
+            [[0; 3], [2, u64::MAX - 1, 0], [2, u64::MAX - 1, 0]].concat(),
+            vec![0; 9],
+            [time, [5, 7, 1], time].concat(),
+        ];
+        for (place, room) in (0..5).flat_map(|place| (0..12).map(move |room| (place, room))) {
+            let given = 3usize.saturating_sub(place).min(room / 3);
+            for (column, fields) in (0..).zip(&columns) {
+                let mut list = vec![9; room];
+                let answer = page(&schema, 3, &bucket, column, place as u32, &mut list);
+                assert_eq!(answer, Ok(given as u32), "place {place}, room {room}");
+                let (written, rest) = list.split_at(3 * given);
+                assert!(fields.iter().skip(3 * place).take(3 * given).eq(written));
+                assert!(rest.iter().all(|&number| number == 9));
+            }
+        }
+    }
+
+    #[test]
+    fn absent_columns_and_rows_of_a_page() {
+        let (schema, bucket) = four_encodings();
+        for (column, place) in [(4, 0), (4, 3), (63, 9), (64, u32::MAX), (u32::MAX, 0)] {
+            assert_eq!(page(&schema, 3, &bucket, column, place, &mut [9; 9]), Err(25));
+        }
+        assert_eq!(page(&schema, 3, &bucket, 3, u32::MAX, &mut [9; 9]), Ok(0));
+        let tiny = [1, 1, 0];
+        assert_eq!(page(&tiny, 0, &[1, 0, 3, 1], 0, 0, &mut [9; 9]), Ok(0));
+        assert_eq!(page(&tiny, 0, &[1, 0, 3, 1], 1, 0, &mut [9; 9]), Err(25));
+        let mut list = [9; 9];
+        assert_eq!(page(&tiny, 1, &[1, 0, 0, 0, 5, 6], 0, 0, &mut list), Err(36));
+        assert_eq!(page(&tiny, 1, &[1, 0, 0, 0, 5, 6], 1, 0, &mut list), Err(36));
+        assert_eq!(list, [9; 9]);
     }
 
     #[test]

@@ -377,4 +377,45 @@ mod tests {
         assert_eq!(check(&text, &block), Err(23));
         assert_eq!(old::ask(|| check(&text, &block)), Err(24));
     }
+
+    /// TINYINT and STRING, three rows, and their numbers.
+    fn listed() -> ([u8; 5], Vec<u8>, Vec<u64>) {
+        let fields = [[2, u64::MAX, 0], [6, 3, 1], [0; 3], [0; 3], [2, 7, 0], [6, 8, 0]];
+        let block = block(&[&[0, 0xFF, 1, b'a'], &[0b11], &[0, 7, 0]]);
+        ([2, 1, 1, 10, 1], block, fields.concat())
+    }
+
+    #[test]
+    fn pages_of_whole_rows() {
+        let (schema, block, fields) = listed();
+        for (place, room) in (0..5).flat_map(|place| (0..20).map(move |room| (place, room))) {
+            let mut list = vec![9; room];
+            let given = 3usize.saturating_sub(place).min(room / 6);
+            let answer = page(&schema, &block, place as u32, &mut list);
+            assert_eq!(answer, Ok((given as u32, 3)), "place {place}, room {room}");
+            let (written, rest) = list.split_at(6 * given);
+            assert!(fields.iter().skip(6 * place).take(6 * given).eq(written));
+            assert!(rest.iter().all(|&number| number == 9));
+        }
+        for place in [65_536, 1 << 31, u32::MAX] {
+            assert_eq!(page(&schema, &block, place, &mut [9; 18]), Ok((0, 3)));
+        }
+        assert_eq!(page(&schema, &[0; 4], 0, &mut [9; 18]), Ok((0, 0)));
+    }
+
+    #[test]
+    fn a_refused_page_changes_nothing() {
+        let (schema, mut block, _) = listed();
+        let last_row = 5;
+        for (bad, refusal) in [(0b100, 24), (0b10, 23)] {
+            block[last_row] = bad;
+            let mut list = [9; 18];
+            assert_eq!(page(&schema, &block, 0, &mut list), Err(refusal));
+            assert_eq!(page(&schema, &block, 9, &mut list), Err(refusal));
+            assert_eq!(list, [9; 18]);
+        }
+        assert_eq!(page(&[2, 1, 1], &block, 0, &mut []), Err(20));
+        assert_eq!(page(&schema, &[0; 3], 0, &mut []), Err(21));
+        assert_eq!(page(&schema, &[0xFF; 4], 0, &mut []), Err(22));
+    }
 }
