@@ -1,7 +1,7 @@
 //! The comparison of the library with the second program, case by case.
 
 #[cfg(any(feature = "rows", feature = "buckets"))]
-use crate::ffi::{Called, Field};
+use crate::ffi::Called;
 use crate::generate::Random;
 use std::collections::BTreeMap;
 use std::fmt::Debug;
@@ -229,10 +229,13 @@ fn room_to_combine(random: &mut Random, length: usize) -> usize {
     }
 }
 
-/// A field's answer, with the bytes of its place instead of the place.
+/// An answer, with the bytes of its places instead of the places.
 #[cfg(any(feature = "rows", feature = "buckets"))]
-fn by_bytes(answer: Called<Field>, bytes: &[u8]) -> Result<Result<(Field, Vec<u8>), u32>, String> {
-    answer?.map_or_else(|refusal| Ok(Err(refusal)), |field| field.by_bytes(bytes).map(Ok))
+fn by_bytes<A, B>(
+    answer: Called<A>,
+    by_bytes: impl FnOnce(A) -> Result<B, String>,
+) -> Result<Result<B, u32>, String> {
+    answer?.map_or_else(|refusal| Ok(Err(refusal)), |answer| by_bytes(answer).map(Ok))
 }
 
 /// A row or column to ask for: mostly one of `count`, at times an absent one.

@@ -643,11 +643,17 @@ impl From<crate::reference::Answer> for Field {
 impl Field {
     /// The answer without its place, and the bytes of that place, which lies in these bytes.
     pub fn by_bytes(self, bytes: &[u8]) -> Result<(Field, Vec<u8>), String> {
-        let end = self.start.checked_add(self.length);
-        let part = end.and_then(|end| bytes.get(self.start..end));
-        let part = part.ok_or(format!("{self:?} lies outside of {} bytes", bytes.len()))?;
-        Ok((Field { start: 0, ..self }, part.to_vec()))
+        let part = part(bytes, self.start, self.length)?;
+        Ok((Field { start: 0, ..self }, part))
     }
+}
+
+/// The bytes of a place.
+#[cfg(any(feature = "rows", feature = "buckets"))]
+fn part(bytes: &[u8], start: usize, length: usize) -> Result<Vec<u8>, String> {
+    let part = start.checked_add(length).and_then(|end| bytes.get(start..end));
+    let outside = || format!("{length} bytes from {start} on lie outside of {}", bytes.len());
+    part.map(<[u8]>::to_vec).ok_or_else(outside)
 }
 
 /// Pointers to the six outputs of a field call.
@@ -702,6 +708,19 @@ pub struct Page {
     pub given: u32,
     pub rows: u32,
     pub list: Vec<u64>,
+}
+
+#[cfg(any(feature = "rows", feature = "buckets"))]
+impl Page {
+    /// The page without the starts of its places, and the bytes of those places, which lie in these.
+    pub fn by_bytes(mut self, bytes: &[u8]) -> Result<(Page, Vec<Vec<u8>>), String> {
+        let mut parts = Vec::new();
+        for field in self.list.chunks_mut(3).filter(|field| field[0] == 6) {
+            parts.push(part(bytes, field[1] as usize, field[2] as usize)?);
+            field[1] = 0;
+        }
+        Ok((self, parts))
+    }
 }
 
 /// What a page call of blocks or buckets takes and sets alike.

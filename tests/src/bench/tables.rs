@@ -2,7 +2,8 @@
 
 use crate::ffi::Field;
 use crate::generate::numbers::Numbers;
-use crate::reference::schema::{Column, Type};
+use crate::generate::schema::every_type;
+use crate::reference::schema::Column;
 use std::hint::black_box;
 
 #[cfg(feature = "buckets")]
@@ -17,30 +18,9 @@ pub use rows::run as run_rows;
 
 /// Columns of all types, every second one nullable.
 fn mixed_columns(count: usize) -> Vec<Column> {
-    let length = 20;
-    let types = [
-        Type::Boolean,
-        Type::TinyInt,
-        Type::SmallInt,
-        Type::Integer,
-        Type::BigInt,
-        Type::Float,
-        Type::Double,
-        Type::Date,
-        Type::Char { length },
-        Type::VarChar { length },
-        Type::String,
-        Type::Binary { length },
-        Type::VarBinary { length },
-        Type::Bytes,
-        Type::Decimal { precision: 18, scale: 2 },
-        Type::Decimal { precision: 38, scale: 2 },
-        Type::Time { precision: 3 },
-        Type::Timestamp { precision: 3 },
-        Type::Timestamp { precision: 9 },
-    ];
-    let column = |i: usize| Column { kind: types[i % types.len()], nullable: i.is_multiple_of(2) };
-    (0..count).map(column).collect()
+    let types = every_type(false).into_iter().cycle().take(count);
+    let columns = types.enumerate();
+    columns.map(|(i, column)| Column { nullable: i.is_multiple_of(2), ..column }).collect()
 }
 
 fn describe(bytes: usize, rows: u32, columns: usize) -> String {

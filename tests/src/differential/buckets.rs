@@ -9,7 +9,9 @@ use crate::reference::buckets::Bucket;
 use crate::reference::{schema, Answer};
 
 pub fn run_case(case: u64, random: &mut Random, tally: &mut Tally) -> Result<(), String> {
-    let case = match edge_number(case).and_then(generate::edge) {
+    let edge = edge_number(case).and_then(generate::edge);
+    let every_column = edge.is_some();
+    let case = match edge {
         Some(case) => case,
         None if random.once_in(3) => {
             let [shortest, padded] = generate::twins(random);
@@ -50,10 +52,13 @@ pub fn run_case(case: u64, random: &mut Random, tally: &mut Tally) -> Result<(),
     for _ in 0..if judged.is_ok() { 4 } else { 1 } {
         compare_some(&lent(any_column(random, columns)), 1, random, tally)?;
     }
-    if judged.is_ok() {
-        compare_whole(&lent(random.below(columns as usize) as u32), random)?;
+    if judged.is_err() {
+        return Ok(());
     }
-    Ok(())
+    if every_column {
+        return (0..columns).try_for_each(|column| compare_whole(&lent(column), random));
+    }
+    compare_whole(&lent(random.below(columns as usize) as u32), random)
 }
 
 /// Mostly a column of the bucket, at times an absent one.
@@ -124,9 +129,17 @@ fn compare_twins(shortest: &Case, padded: &Case, random: &mut Random) -> Result<
         let [expected, answer] =
             [(&schema, &bucket), (&padded_schema, &padded_bucket)].map(|(schema, bucket)| {
                 let answer = buckets::bucket_field(schema, rows, bucket, row, column, random);
-                by_bytes(answer, bucket.content())
+                by_bytes(answer, |field| field.by_bytes(bucket.content()))
             });
         same(|| question(&format!("bucket field, row {row}, column {column}")), answer, expected?)?;
     }
-    Ok(())
+    let column = random.below(columns.max(1) as usize) as u32;
+    let (place, room) = (random.below(2) as u32, 3 * random.between(1, rows as usize + 1));
+    let [expected, answer] =
+        [(&schema, &bucket), (&padded_schema, &padded_bucket)].map(|(schema, bucket)| {
+            let answer = buckets::bucket_page(schema, rows, bucket, column, place, room, random);
+            by_bytes(answer, |page| page.by_bytes(bucket.content()))
+        });
+    let question = || question(&format!("bucket page of {column} from {place}, room {room}"));
+    same(question, answer, expected?)
 }

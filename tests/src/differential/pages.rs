@@ -25,12 +25,19 @@ fn any_place(random: &mut Random, rows: u32) -> u32 {
     match random.below(16) {
         0 => rows,
         1 => rows.saturating_add(random.between(1, 3) as u32),
-        2 => random.pick(&[65_535, 65_536, 65_537, 1 << 31, u32::MAX]),
-        3 => random.word() as u32,
-        4 => row | 1 << random.between(8, 31),
-        5 | 6 => rows.saturating_sub(1),
-        7..=10 => 0,
+        2 => far_place(random, row),
+        3 | 4 => rows.saturating_sub(1),
+        5..=8 => 0,
         _ => row,
+    }
+}
+
+/// Mostly no row; also the row with one higher bit.
+fn far_place(random: &mut Random, row: u32) -> u32 {
+    match random.below(3) {
+        0 => random.pick(&[65_535, 65_536, 65_537, 1 << 31, u32::MAX]),
+        1 => random.word() as u32,
+        _ => row | 1 << random.between(8, 31),
     }
 }
 
@@ -70,8 +77,24 @@ pub fn compare_some(
         let room = any_room(random, fitting as usize, 3 * listing.fields());
         let page = compare_page(listing, place, room, random)?;
         tally.count_call(1, &page);
+        if let Ok(page) = page {
+            let ended = ending(&page, place, room);
+            tally.count_call(2, &Err::<(), u32>(ended));
+        }
     }
     Ok(())
+}
+
+/// How a page ended: no row at its place, no room for one, or room for no more with rows left; the last
+/// row in the list's last numbers, or before them.
+fn ending(page: &Page, place: u32, room: usize) -> u32 {
+    match page.given {
+        0 if place >= page.rows => 0,
+        0 => 1,
+        _ if page.place < page.rows => 2,
+        _ if page.list.len() == room => 3,
+        _ => 4,
+    }
 }
 
 /// Compares one page, and returns the one that both programs gave.
@@ -94,11 +117,12 @@ fn compare_page(
 /// The rows of which every field is asked for; of more rows some fields are.
 const FEW_ROWS: u32 = 150;
 
-/// Compares pages one after the other, from the first row until none is left: together they have the
-/// fields that the second program answers one by one.
+/// Compares one page of all rows; then pages one after the other, from the first row until none is left:
+/// together they have the fields that the second program answers one by one.
 pub fn compare_whole(listing: &dyn Listing, random: &mut Random) -> Result<(), String> {
     let (rows, row) = (listing.rows(), 3 * listing.fields());
     let most = rows as usize / random.between(1, 6) + 1;
+    compare_page(listing, 0, rows as usize * row, random)?.ok();
     let (mut place, mut all) = (0, Vec::new());
     while place < rows {
         let room = random.between(1, most) * row + random.below(row);

@@ -125,11 +125,20 @@ fn compare_twins(shortest: &Case, padded: &Case, random: &mut Random) -> Result<
         let column = any_index(random, columns as usize);
         let [expected, answer] =
             [(&schema, &block), (&padded_schema, &padded_block)].map(|(schema, block)| {
-                by_bytes(rows::block_field(schema, block, row, column, random), block.content())
+                let answer = rows::block_field(schema, block, row, column, random);
+                by_bytes(answer, |field| field.by_bytes(block.content()))
             });
         same(|| question(&format!("block field, row {row}, column {column}")), answer, expected?)?;
     }
-    Ok(())
+    let numbers = 3 * columns.max(1) as usize;
+    let room = numbers * random.between(1, count.unwrap_or(0) as usize + 1);
+    let place = random.below(2) as u32;
+    let [expected, answer] =
+        [(&schema, &block), (&padded_schema, &padded_block)].map(|(schema, block)| {
+            let answer = rows::block_page(schema, block, numbers, place, room, random);
+            by_bytes(answer, |page| page.by_bytes(block.content()))
+        });
+    same(|| question(&format!("block page from {place}, room {room}")), answer, expected?)
 }
 
 /// A schema alone: it is damaged far more often than one that comes with a block.

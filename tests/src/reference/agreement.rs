@@ -202,7 +202,8 @@ fn edges_of_blocks() {
     let edges = (4..).map_while(generate::rows::edge);
     let mut outcomes: Vec<_> =
         edges.map(|case| super::rows::check(&case.schema, &case.block)).collect();
-    assert_eq!(outcomes.len(), 75);
+    let full = outcomes.split_off(75);
+    assert_eq!(full, [vec![Ok(70); 8], vec![Ok(65_536)]].concat());
     // All forms of a number have one outcome.
     outcomes.dedup();
     let schemas = [Ok(0), Err(20), Ok(0), Err(20), Ok(0)];
@@ -237,7 +238,7 @@ fn edges_of_buckets() {
         .map(|case| super::buckets::check(&case.schema, case.rows, &case.bucket))
         .map(|outcome| outcome.err().unwrap_or(0))
         .collect();
-    assert_eq!(outcomes.len(), 84);
+    assert_eq!(outcomes.split_off(84), [0; 33]);
     // All forms of a number have one outcome.
     outcomes.dedup();
     assert_eq!(outcomes, [0, 30, 0, 30, 0, 33, 0, 31, 0, 31, 32, 0]);

@@ -37,8 +37,9 @@ pub fn faults() -> impl Iterator<Item = &'static str> + Clone {
     values.chain(indexes).chain(columns).chain(OTHERS)
 }
 
-const OTHERS: [&str; 6] = [
+const OTHERS: [&str; 7] = [
     AS_IF_SHORTEST,
+    "page-nulls-of-the-first-column",
     "page-constant-for-nulls",
     "page-all-null-not-null",
     "page-entries-equally-long",
@@ -131,6 +132,11 @@ pub fn listed(asked: &Asked) -> Result<Listed, u32> {
         all = wrong_parts(asked, column, parts)?.unwrap_or(all);
         wrong_values(asked, &mut all);
         wrong_fields(&mut all, column, &walk);
+        if planted("page-nulls-of-the-first-column") {
+            let first = asked.all_of(asked.bucket, 0)?;
+            let nulls = all.chunks_mut(3).zip(first.chunks(3)).filter(|(_, first)| first[0] == 0);
+            nulls.for_each(|(field, _)| field.fill(0));
+        }
     }
     Ok(Listed { rows: asked.rows, numbers: 3, all })
 }

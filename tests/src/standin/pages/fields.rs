@@ -157,36 +157,53 @@ pub unsafe fn write(to: &Outputs, numbers: &[u64], written: usize) {
     }
 }
 
-/// Wrong starts of places in blocks.
-pub const OF_BLOCKS: [&str; 3] = [IN_THE_ROW, BEHIND_THE_NULLS, AS_IF_SHORTEST];
+/// Wrong nulls and starts of places in blocks.
+pub const OF_BLOCKS: [&str; 5] =
+    [NULLS_OF_A_BYTE, NULLS_OF_A_ROW, IN_THE_ROW, BEHIND_THE_NULLS, AS_IF_SHORTEST];
+const NULLS_OF_A_BYTE: &str = "page-nulls-of-the-first-byte";
+const NULLS_OF_A_ROW: &str = "page-nulls-of-the-row-before";
 const IN_THE_ROW: &str = "page-start-in-the-row";
 const BEHIND_THE_NULLS: &str = "page-start-behind-the-null-bitmap";
 pub const AS_IF_SHORTEST: &str = "page-start-as-if-shortest";
 
-/// All fields of a block, with wrong starts if they are planted.
+/// All fields of a block, with wrong ones if they are planted.
 pub fn of_block(schema: &[u8], block: &[u8]) -> Result<Listed, u32> {
     let judged = Block::judge(schema, block)?;
     let columns = schema::read(schema)?;
     let (rows, numbers) = (judged.rows() as u32, 3 * columns.len());
     let mut all = vec![0; rows as usize * numbers];
     judged.page(0, &mut all);
-    let offsets = block.len() - 4 - 4 * rows as usize;
-    for (row, fields) in all.chunks_mut(numbers).enumerate() {
-        let offset: [u8; 4] = block[offsets + 4 * row..][..4].try_into().unwrap();
-        let bitmap = columns.len().div_ceil(8) as u64;
-        for field in fields.chunks_mut(3).filter(|field| field[0] == 6) {
-            if planted(IN_THE_ROW) {
-                field[1] -= u64::from(u32::from_le_bytes(offset));
-            }
-            if planted(BEHIND_THE_NULLS) {
-                field[1] -= bitmap;
-            }
-        }
+    if planted(NULLS_OF_A_BYTE) {
+        all.chunks_mut(numbers).for_each(|row| null_as(row, |at| Some(at % 24)));
+    }
+    if planted(NULLS_OF_A_ROW) {
+        null_as(&mut all, |at| at.checked_sub(numbers));
     }
     if planted(AS_IF_SHORTEST) {
         start_as_if_shortest(&mut all, &places::of_block(&columns, block));
     }
+    let offsets = &block[block.len() - 4 - 4 * rows as usize..];
+    for (row, offset) in all.chunks_mut(numbers).zip(offsets.chunks(4)) {
+        for field in row.chunks_mut(3).filter(|field| field[0] == 6) {
+            if planted(IN_THE_ROW) {
+                field[1] -= u64::from(u32::from_le_bytes(offset.try_into().unwrap()));
+            }
+            if planted(BEHIND_THE_NULLS) {
+                field[1] -= columns.len().div_ceil(8) as u64;
+            }
+        }
+    }
     Ok(Listed { rows, numbers, all })
+}
+
+/// Makes a field null where another, if there is one, is null: from where it stands to where that stands.
+fn null_as(all: &mut [u64], other: impl Fn(usize) -> Option<usize>) {
+    let right = all.to_vec();
+    for (i, field) in all.chunks_mut(3).enumerate() {
+        if other(3 * i).is_some_and(|at| right[at] == 0) {
+            field.fill(0);
+        }
+    }
 }
 
 /// Lets places start where they would if their lengths had no padding.

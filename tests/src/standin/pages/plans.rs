@@ -180,6 +180,10 @@ pub const OF_BLOCKS: &[(&str, Fault)] = &[
         Plan { rows: right.given, ..right }
     }),
     ("page-rows-left", |asked| Plan { rows: Some(asked.left() as u32), ..asked.right() }),
+    ("page-rows-the-place", |asked| {
+        let right = asked.right();
+        Plan { rows: Some(right.place), ..right }
+    }),
     ("page-rows-not-set-past-the-end", |asked| {
         let right = asked.right();
         Plan { rows: right.rows.filter(|&rows| asked.place < rows), ..right }

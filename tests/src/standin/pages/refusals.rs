@@ -1,29 +1,34 @@
 //! Pages that are refused wrongly, or that leave something behind when they are.
 
 use super::super::planted;
-use super::columns::Asked;
-use super::{fields, plans, Outputs};
+use super::columns::{self, Asked};
+use super::{fields, plans, Listed, Outputs};
 use crate::reference::schema;
 
-pub const BOTH: [&str; 6] = [
+pub const BOTH: [&str; 7] = [
     "page-accepts-everything",
+    "page-not-judged-without-room",
     "page-place-set-on-refusal",
     "page-given-set-on-refusal",
     "page-list-touched-on-refusal",
     "page-list-cleared-on-refusal",
     LATE,
 ];
-pub const OF_BLOCKS: [&str; 1] = ["page-rows-set-on-refusal"];
-pub const OF_BUCKETS: [&str; 6] = [
+pub const OF_BLOCKS: [&str; 2] = ["page-rows-set-on-refusal", ITS_ROWS];
+pub const OF_BUCKETS: [&str; 7] = [
     "page-absent-column-gives-nothing",
     "page-absent-column-past-the-end-gives-nothing",
     "page-absent-column-without-rows-gives-nothing",
     "page-25-before-36",
-    "page-25-before-the-bucket",
     "page-25-before-37",
+    "page-25-before-the-bucket",
+    LEFT_OVER,
 ];
 /// The list is written before all is judged.
 const LATE: &str = "page-refused-late";
+/// Rows behind the page are not judged.
+const ITS_ROWS: &str = "page-rows-behind-it-not-judged";
+const LEFT_OVER: &str = "page-takes-bytes-left-over";
 
 /// Each refusal as another.
 pub fn numbers() -> Vec<(&'static str, String)> {
@@ -33,8 +38,15 @@ pub fn numbers() -> Vec<(&'static str, String)> {
 }
 
 pub unsafe fn of_block(to: &Outputs, number: u32, schema: &[u8], block: &[u8]) -> u32 {
-    if planted(LATE) && number == 24 {
-        write_rows_before(to, schema, block);
+    if let (24, true) = (number, planted(LATE) || planted(ITS_ROWS)) {
+        let Some(before) = rows_before(schema, block) else { return number };
+        let end = *to.place as usize + to.room / before.numbers;
+        if planted(ITS_ROWS) && end <= before.rows as usize {
+            return plans::give(to, &before);
+        }
+        if planted(LATE) {
+            write_list(to, &before);
+        }
     }
     refuse(to, number)
 }
@@ -55,14 +67,20 @@ pub unsafe fn of_bucket(to: &Outputs, number: u32, asked: &Asked) -> u32 {
     if absent && first {
         return 25;
     }
-    if planted(LATE) && number == 36 {
-        write_column_before(to, asked);
+    if let (36, Some(before)) = (number, column_before(asked)) {
+        if planted(LEFT_OVER) {
+            return plans::give(to, &before);
+        }
+        if planted(LATE) {
+            write_list(to, &before);
+        }
     }
     refuse(to, number)
 }
 
 unsafe fn refuse(to: &Outputs, number: u32) -> u32 {
-    if planted("page-accepts-everything") {
+    let unjudged = planted("page-not-judged-without-room") && to.room == 0;
+    if planted("page-accepts-everything") || unjudged {
         to.set(*to.place, 0, 0);
         return 0;
     }
@@ -87,34 +105,30 @@ unsafe fn refuse(to: &Outputs, number: u32) -> u32 {
     number
 }
 
-/// Writes the page of the rows that are sound, up to the first bad one.
-unsafe fn write_rows_before(to: &Outputs, schema: &[u8], block: &[u8]) {
-    let (bytes, count) = block.split_at(block.len() - 4);
-    let count = u32::from_le_bytes(count.try_into().unwrap()) as usize;
+/// The rows that are sound, up to the first bad one, if there are such.
+fn rows_before(schema: &[u8], block: &[u8]) -> Option<Listed> {
+    let (bytes, count) = block.split_last_chunk()?;
+    let count = u32::from_le_bytes(*count) as usize;
     let (rows, offsets) = bytes.split_at(bytes.len() - 4 * count);
-    let mut sound = None;
-    for k in 1..count {
-        let end = u32::from_le_bytes(offsets[4 * k..][..4].try_into().unwrap()) as usize;
-        let Some(first) = rows.get(..end) else { break };
-        let first = [first, &offsets[..4 * k], &(k as u32).to_le_bytes()].concat();
-        let Ok(listed) = fields::of_block(schema, &first) else { break };
-        sound = Some(listed);
-    }
-    write_list(to, sound);
+    let first = |k: usize| {
+        let end = u32::from_le_bytes(*offsets[4 * k..].first_chunk()?) as usize;
+        let sound = [rows.get(..end)?, &offsets[..4 * k], &(k as u32).to_le_bytes()].concat();
+        fields::of_block(schema, &sound).ok()
+    };
+    (1..count).map_while(first).last()
 }
 
-/// Writes the page of the bucket without the bytes that are left over.
-unsafe fn write_column_before(to: &Outputs, asked: &Asked) {
-    let shorter = (1..=asked.bucket.len().min(8))
-        .map(|more| Asked { bucket: &asked.bucket[..asked.bucket.len() - more], ..*asked });
-    write_list(to, shorter.into_iter().find_map(|asked| super::columns::listed(&asked).ok()));
+/// The column of the bucket without the bytes that are left over.
+fn column_before(asked: &Asked) -> Option<Listed> {
+    let length = asked.bucket.len();
+    let shorter = (1..=length.min(8)).map(|more| &asked.bucket[..length - more]);
+    let mut listed = shorter.map(|bucket| columns::listed(&Asked { bucket, ..*asked }));
+    listed.find_map(Result::ok)
 }
 
 /// Writes the list alone.
-unsafe fn write_list(to: &Outputs, listed: Option<super::Listed>) {
+unsafe fn write_list(to: &Outputs, listed: &Listed) {
     let (mut place, mut given) = (*to.place, 0);
     let other = Outputs { place: &mut place, given: &mut given, rows: None, ..*to };
-    if let Some(listed) = listed {
-        plans::give(&other, &listed);
-    }
+    plans::give(&other, listed);
 }
