@@ -5,6 +5,9 @@ use crate::generate::Random;
 use std::ops::Range;
 use std::ptr::NonNull;
 
+#[cfg(any(feature = "rows", feature = "buckets"))]
+pub mod huge;
+
 /// What a call answered: its outputs or its refusal. The outer error tells of harmed memory.
 pub type Called<T> = Result<Result<T, u32>, String>;
 
@@ -712,6 +715,16 @@ pub struct Page {
 
 #[cfg(any(feature = "rows", feature = "buckets"))]
 impl Page {
+    /// The first page of a call that sets place, given and rows, into a list too large to be copied and
+    /// without guard cells. Its numbers stay in that list.
+    fn in_place(call: impl FnOnce(&mut u32, &mut u32, &mut u32) -> u32) -> Result<Page, u32> {
+        let mut page = Page { place: 0, given: 0, rows: 0, list: Vec::new() };
+        match call(&mut page.place, &mut page.given, &mut page.rows) {
+            0 => Ok(page),
+            code => Err(code),
+        }
+    }
+
     /// The page without the starts of its places, and the bytes of those places, which lie in these.
     pub fn by_bytes(mut self, bytes: &[u8]) -> Result<(Page, Vec<Vec<u8>>), String> {
         let mut parts = Vec::new();
@@ -991,6 +1004,26 @@ pub mod rows {
         };
         page.settle(code, numbers, &[schema, block], &[(&rows, 1)], || rows.value())
     }
+
+    pub fn block_page_in_place(
+        schema: &Lent<u8>,
+        block: &Lent<u8>,
+        list: &mut [u64],
+    ) -> Result<Page, u32> {
+        Page::in_place(|place, given, rows| unsafe {
+            bv_block_page(
+                schema.pointer(),
+                schema.length,
+                block.pointer(),
+                block.length,
+                place,
+                list.as_mut_ptr(),
+                list.len(),
+                given,
+                rows,
+            )
+        })
+    }
 }
 
 #[cfg(feature = "buckets")]
@@ -1097,5 +1130,29 @@ pub mod buckets {
             )
         };
         page.settle(code, 3, &[schema, bucket], &[], || rows)
+    }
+
+    pub fn bucket_page_in_place(
+        schema: &Lent<u8>,
+        rows: u32,
+        bucket: &Lent<u8>,
+        column: u32,
+        list: &mut [u64],
+    ) -> Result<Page, u32> {
+        Page::in_place(|place, given, of_page| unsafe {
+            *of_page = rows;
+            bv_bucket_page(
+                schema.pointer(),
+                schema.length,
+                rows,
+                bucket.pointer(),
+                bucket.length,
+                column,
+                place,
+                list.as_mut_ptr(),
+                list.len(),
+                given,
+            )
+        })
     }
 }

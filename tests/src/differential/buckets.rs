@@ -1,6 +1,6 @@
 //! Buckets.
 
-use super::pages::{compare_some, compare_whole, Listing};
+use super::pages::{compare_huge, compare_some, compare_whole, Listing};
 use super::{any_index, by_bytes, edge_number, hex, same, Tally};
 use crate::ffi::{buckets, Called, Field, Lent, Page};
 use crate::generate::buckets::{self as generate, Case};
@@ -9,7 +9,8 @@ use crate::reference::buckets::Bucket;
 use crate::reference::{schema, Answer};
 
 pub fn run_case(case: u64, random: &mut Random, tally: &mut Tally) -> Result<(), String> {
-    let edge = edge_number(case).and_then(generate::edge);
+    let number = edge_number(case);
+    let edge = number.and_then(generate::edge);
     let every_column = edge.is_some();
     let case = match edge {
         Some(case) => case,
@@ -55,6 +56,9 @@ pub fn run_case(case: u64, random: &mut Random, tally: &mut Tally) -> Result<(),
     if judged.is_err() {
         return Ok(());
     }
+    if number == Some(0) {
+        compare_huge(&lent(0))?;
+    }
     if every_column {
         return (0..columns).try_for_each(|column| compare_whole(&lent(column), random));
     }
@@ -89,6 +93,10 @@ impl Listing for LentColumn<'_> {
 
     fn library(&self, place: u32, room: usize, random: &mut Random) -> Called<Page> {
         buckets::bucket_page(self.schema, self.rows, self.bucket, self.column, place, room, random)
+    }
+
+    fn library_in_place(&self, list: &mut [u64]) -> Result<Page, u32> {
+        buckets::bucket_page_in_place(self.schema, self.rows, self.bucket, self.column, list)
     }
 
     fn reference(&self, place: u32, list: &mut [u64]) -> Result<u32, u32> {

@@ -1,6 +1,7 @@
 //! Pages of a block, and of one column of a bucket.
 
 use super::{same, Tally};
+use crate::ffi::huge::{HugeList, HUGE};
 use crate::ffi::{Called, Page};
 use crate::generate::Random;
 use crate::reference::Answer;
@@ -12,6 +13,8 @@ pub trait Listing {
     /// How many fields of a row a page gives, at least one.
     fn fields(&self) -> usize;
     fn library(&self, place: u32, room: usize, random: &mut Random) -> Called<Page>;
+    /// The library's first page into a list too large to be copied.
+    fn library_in_place(&self, list: &mut [u64]) -> Result<Page, u32>;
     /// The second program's page into the list: how many rows it gives.
     fn reference(&self, place: u32, list: &mut [u64]) -> Result<u32, u32>;
     /// The second program's answer for one field of a row.
@@ -148,4 +151,19 @@ fn compare_field(listing: &dyn Listing, number: usize, all: &[u64]) -> Result<()
     let expected = listing.field(row as u32, field).map(Answer::numbers);
     let listed = all[3 * number..].first_chunk().copied().ok_or(0);
     same(question, Ok(listed), expected)
+}
+
+/// Compares the first page into a list of that room; without so much address room there is nothing to
+/// compare. Some numbers behind the page are looked at.
+pub fn compare_huge(listing: &dyn Listing) -> Result<(), String> {
+    let Some(mut list) = HugeList::new(HUGE) else { return Ok(()) };
+    let rows = listing.rows();
+    let numbers = 3 * listing.fields() * rows as usize;
+    let mut expected = vec![0; numbers + 1000];
+    let given = listing.reference(0, &mut expected);
+    let page = given.map(|given| Page { place: given, given, rows, list: Vec::new() });
+    let answer = listing.library_in_place(list.numbers());
+    let written = list.numbers()[..expected.len()].to_vec();
+    let question = || format!("page into a list of {HUGE} numbers{}", listing.text());
+    same(question, Ok((answer, written)), (page, expected))
 }

@@ -1,6 +1,6 @@
 //! Schemas and row blocks.
 
-use super::pages::{compare_some, compare_whole, Listing};
+use super::pages::{compare_huge, compare_some, compare_whole, Listing};
 use super::{any_index, by_bytes, edge_number, hex, same, Tally};
 use crate::ffi::{rows, Called, Field, Lent, Page};
 use crate::generate::rows::{self as generate, Case};
@@ -9,7 +9,8 @@ use crate::reference::rows::Block;
 use crate::reference::{schema, Answer};
 
 pub fn run_case(case: u64, random: &mut Random, tally: &mut Tally) -> Result<(), String> {
-    let case = match edge_number(case).and_then(generate::edge) {
+    let edge = edge_number(case);
+    let case = match edge.and_then(generate::edge) {
         Some(case) => case,
         None if random.once_in(3) => {
             let [shortest, padded] = generate::twins(random);
@@ -53,7 +54,11 @@ pub fn run_case(case: u64, random: &mut Random, tally: &mut Tally) -> Result<(),
         return compare_some(&lent, 1, random, tally);
     }
     compare_some(&lent, 4, random, tally)?;
-    compare_whole(&lent, random)
+    compare_whole(&lent, random)?;
+    if edge == Some(0) {
+        compare_huge(&lent)?;
+    }
+    Ok(())
 }
 
 /// A block that is listed by pages.
@@ -82,6 +87,10 @@ impl Listing for LentBlock<'_> {
 
     fn library(&self, place: u32, room: usize, random: &mut Random) -> Called<Page> {
         rows::block_page(self.schema, self.block, 3 * self.fields, place, room, random)
+    }
+
+    fn library_in_place(&self, list: &mut [u64]) -> Result<Page, u32> {
+        rows::block_page_in_place(self.schema, self.block, list)
     }
 
     fn reference(&self, place: u32, list: &mut [u64]) -> Result<u32, u32> {

@@ -1,6 +1,7 @@
 //! The calls that list fields by pages, and wrong programs that list them.
 
 use super::{planted, set};
+use crate::ffi::huge::{HugeList, HUGE};
 use crate::reference::{buckets, rows};
 use std::slice::{from_raw_parts, from_raw_parts_mut};
 use std::sync::OnceLock;
@@ -12,7 +13,8 @@ mod refusals;
 
 /// The faults, with the group that must find each one.
 pub fn faults() -> Vec<(&'static str, String)> {
-    let both = plans::BOTH.iter().map(|(name, _)| *name);
+    let huge = if HugeList::new(HUGE).is_some() { plans::HUGE } else { &[] };
+    let both = plans::BOTH.iter().chain(huge).map(|(name, _)| *name);
     let both = both.chain(fields::FAULTS.iter().map(|(name, _)| *name)).chain(refusals::BOTH);
     let rows = plans::OF_BLOCKS.iter().map(|(name, _)| *name);
     let rows = both.clone().chain(rows).chain(fields::OF_BLOCKS).chain(refusals::OF_BLOCKS);

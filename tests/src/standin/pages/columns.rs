@@ -114,7 +114,9 @@ fn bits(bytes: &[u8], start: usize, count: usize) -> usize {
 }
 
 /// The column that is listed in place of the one asked for; the bucket has so many.
-const COLUMNS: [(&str, fn(u32, u32) -> u32); 3] = [
+type Column = fn(u32, u32) -> u32;
+
+const COLUMNS: [(&str, Column); 3] = [
     ("page-column-in-six-bits", |column, _| column & 63),
     ("page-column-in-a-byte", |column, _| column & 255),
     ("page-absent-column-as-the-last", |column, count| column.min(count - 1)),

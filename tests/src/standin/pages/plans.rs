@@ -162,6 +162,14 @@ pub const BOTH: &[(&str, Fault)] = &[
     }),
 ];
 
+/// Faults that show where the room is over 32 bits.
+pub const HUGE: &[(&str, Fault)] = &[
+    ("page-room-in-32-bits", |asked| Asked { room: asked.room as u32 as usize, ..asked }.right()),
+    ("page-rows-of-the-room-in-32-bits", |asked| {
+        asked.at_most((asked.room / asked.numbers) as u32 as usize)
+    }),
+];
+
 pub const OF_BLOCKS: &[(&str, Fault)] = &[
     ("page-given-counts-fields", |asked| {
         let right = asked.right();
@@ -198,7 +206,7 @@ pub const OF_BLOCKS: &[(&str, Fault)] = &[
 pub unsafe fn give(to: &Outputs, listed: &Listed) -> u32 {
     let Listed { rows, numbers, .. } = *listed;
     let asked = Asked { place: *to.place, room: to.room, rows, numbers };
-    let fault = BOTH.iter().chain(OF_BLOCKS).find(|(name, _)| planted(name));
+    let fault = BOTH.iter().chain(HUGE).chain(OF_BLOCKS).find(|(name, _)| planted(name));
     let plan = fault.map_or_else(|| asked.right(), |(_, fault)| fault(asked));
     if plan.refusal != 0 {
         return plan.refusal;
