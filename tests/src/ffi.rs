@@ -754,14 +754,14 @@ impl LentPage {
         }
     }
 
-    /// What the call left, of whose list each row takes so many numbers. `rows` is read on success.
+    /// What the call left, of whose list each row takes so many numbers.
     fn settle(
         &self,
         code: u32,
         numbers: usize,
         inputs: &[&dyn Memory],
         others: &[(&dyn Memory, usize)],
-        rows: impl FnOnce() -> u32,
+        rows: u32,
     ) -> Called<Page> {
         let mut count = 0;
         if code == 0 {
@@ -774,7 +774,7 @@ impl LentPage {
         settle(code, inputs, &outputs, || Page {
             place: self.place.value(),
             given: self.given.value(),
-            rows: rows(),
+            rows,
             list: self.list.content()[..count].to_vec(),
         })
     }
@@ -1002,7 +1002,7 @@ pub mod rows {
                 rows.pointer_mut(),
             )
         };
-        page.settle(code, numbers, &[schema, block], &[(&rows, 1)], || rows.value())
+        page.settle(code, numbers, &[schema, block], &[(&rows, 1)], rows.value())
     }
 
     pub fn block_page_in_place(
@@ -1129,7 +1129,7 @@ pub mod buckets {
                 page.given.pointer_mut(),
             )
         };
-        page.settle(code, 3, &[schema, bucket], &[], || rows)
+        page.settle(code, 3, &[schema, bucket], &[], rows)
     }
 
     pub fn bucket_page_in_place(

@@ -1,17 +1,18 @@
 //! Buckets.
 
-use super::pages::{compare_huge, compare_some, compare_whole, Listing};
+use super::pages::{compare_any, compare_huge, compare_whole, Listing};
 use super::{any_index, by_bytes, edge_number, hex, same, Tally};
 use crate::ffi::{buckets, Called, Field, Lent, Page};
 use crate::generate::buckets::{self as generate, Case};
 use crate::generate::Random;
 use crate::reference::buckets::Bucket;
 use crate::reference::{schema, Answer};
+use std::ops::Range;
 
 pub fn run_case(case: u64, random: &mut Random, tally: &mut Tally) -> Result<(), String> {
     let number = edge_number(case);
     let edge = number.and_then(generate::edge);
-    let every_column = edge.is_some();
+    let is_edge = edge.is_some();
     let case = match edge {
         Some(case) => case,
         None if random.once_in(3) => {
@@ -49,20 +50,22 @@ pub fn run_case(case: u64, random: &mut Random, tally: &mut Tally) -> Result<(),
         same(question, answer, expected)?;
     }
     let judged = judged.as_ref().map_err(|&refusal| refusal);
-    let lent = |column| LentColumn { schema: &schema, rows, bucket: &bucket, judged, column };
+    let lent =
+        |column| LentColumn { case: &case, schema: &schema, bucket: &bucket, judged, column };
     for _ in 0..if judged.is_ok() { 4 } else { 1 } {
-        compare_some(&lent(any_column(random, columns)), 1, random, tally)?;
-    }
-    if judged.is_err() {
-        return Ok(());
+        compare_any(&lent(any_column(random, columns)), random, tally)?;
     }
     if number == Some(0) {
         compare_huge(&lent(0))?;
     }
-    if every_column {
-        return (0..columns).try_for_each(|column| compare_whole(&lent(column), random));
-    }
-    compare_whole(&lent(random.below(columns as usize) as u32), random)
+    // Every column of an edge, one of other buckets.
+    let listed = if is_edge { 0..columns } else { one_of(random, columns) };
+    listed.filter(|_| judged.is_ok()).try_for_each(|column| compare_whole(&lent(column), random))
+}
+
+fn one_of(random: &mut Random, columns: u32) -> Range<u32> {
+    let column = random.below(columns as usize) as u32;
+    column..column + 1
 }
 
 /// Mostly a column of the bucket, at times an absent one.
@@ -75,8 +78,8 @@ fn any_column(random: &mut Random, columns: u32) -> u32 {
 
 /// One column, present or not, of a bucket that is listed by pages.
 struct LentColumn<'a> {
+    case: &'a Case,
     schema: &'a Lent<u8>,
-    rows: u32,
     bucket: &'a Lent<u8>,
     judged: Result<&'a Bucket<'a>, u32>,
     column: u32,
@@ -84,7 +87,7 @@ struct LentColumn<'a> {
 
 impl Listing for LentColumn<'_> {
     fn rows(&self) -> u32 {
-        self.rows
+        self.case.rows
     }
 
     fn fields(&self) -> usize {
@@ -92,11 +95,12 @@ impl Listing for LentColumn<'_> {
     }
 
     fn library(&self, place: u32, room: usize, random: &mut Random) -> Called<Page> {
-        buckets::bucket_page(self.schema, self.rows, self.bucket, self.column, place, room, random)
+        let (rows, column) = (self.rows(), self.column);
+        buckets::bucket_page(self.schema, rows, self.bucket, column, place, room, random)
     }
 
     fn library_in_place(&self, list: &mut [u64]) -> Result<Page, u32> {
-        buckets::bucket_page_in_place(self.schema, self.rows, self.bucket, self.column, list)
+        buckets::bucket_page_in_place(self.schema, self.rows(), self.bucket, self.column, list)
     }
 
     fn reference(&self, place: u32, list: &mut [u64]) -> Result<u32, u32> {
@@ -108,9 +112,7 @@ impl Listing for LentColumn<'_> {
     }
 
     fn text(&self) -> String {
-        let (schema, bucket) = (hex(self.schema.content()), hex(self.bucket.content()));
-        let (rows, column) = (self.rows, self.column);
-        format!("\ncolumn {column}, rows {rows}, schema {schema}\nbucket {bucket}")
+        format!("\ncolumn {}{}", self.column, text(self.case))
     }
 }
 

@@ -61,35 +61,31 @@ fn any_room(random: &mut Random, rows: usize, row: usize) -> usize {
     }
 }
 
-/// Compares pages from any places into any rooms.
-pub fn compare_some(
+/// Compares a page from any place into any room.
+pub fn compare_any(
     listing: &dyn Listing,
-    count: usize,
     random: &mut Random,
     tally: &mut Tally,
 ) -> Result<(), String> {
-    for _ in 0..count {
-        let rows = listing.rows();
-        let place = any_place(random, rows);
-        let left = rows.saturating_sub(place);
-        let fitting = match listing.reference(place, &mut []) {
-            Err(_) => 3,
-            Ok(_) if left > 0 && random.once_in(2) => left,
-            Ok(_) => rows,
-        };
-        let room = any_room(random, fitting as usize, 3 * listing.fields());
-        let page = compare_page(listing, place, room, random)?;
-        tally.count_call(1, &page);
-        if let Ok(page) = page {
-            let ended = ending(&page, place, room);
-            tally.count_call(2, &Err::<(), u32>(ended));
-        }
+    let rows = listing.rows();
+    let place = any_place(random, rows);
+    let left = rows.saturating_sub(place);
+    let fitting = match listing.reference(place, &mut []) {
+        Err(_) => 3,
+        Ok(_) if left > 0 && random.once_in(2) => left,
+        Ok(_) => rows,
+    };
+    let room = any_room(random, fitting as usize, 3 * listing.fields());
+    let page = compare_page(listing, place, room, random)?;
+    tally.count_call(1, &page);
+    if let Ok(page) = page {
+        tally.count_call(2, &Err::<(), u32>(ending(&page, place, room)));
     }
     Ok(())
 }
 
-/// How a page ended: no row at its place, no room for one, or room for no more with rows left; the last
-/// row in the list's last numbers, or before them.
+/// How a page ended: no row at its place, no room for one, no room for the rest; the last row in the
+/// list's last numbers, or before them.
 fn ending(page: &Page, place: u32, room: usize) -> u32 {
     match page.given {
         0 if place >= page.rows => 0,
@@ -120,23 +116,21 @@ fn compare_page(
 /// The rows of which every field is asked for; of more rows some fields are.
 const FEW_ROWS: u32 = 150;
 
-/// Compares one page of all rows; then pages one after the other, from the first row until none is left:
-/// together they have the fields that the second program answers one by one.
+/// Compares one page of all rows, and pages one after the other, from the first row until none is left:
+/// they have the fields that the second program answers one by one. The listing is of a sound input.
 pub fn compare_whole(listing: &dyn Listing, random: &mut Random) -> Result<(), String> {
+    let refused = |refusal| format!("refused {refusal}{}", listing.text());
     let (rows, row) = (listing.rows(), 3 * listing.fields());
+    let whole = compare_page(listing, 0, rows as usize * row, random)?.map_err(refused)?.list;
     let most = rows as usize / random.between(1, 6) + 1;
-    compare_page(listing, 0, rows as usize * row, random)?.ok();
     let (mut place, mut all) = (0, Vec::new());
     while place < rows {
         let room = random.between(1, most) * row + random.below(row);
-        match compare_page(listing, place, room, random)? {
-            Ok(page) => {
-                place = page.place;
-                all.extend(page.list);
-            }
-            Err(refusal) => return Err(format!("refused {refusal}{}", listing.text())),
-        }
+        let page = compare_page(listing, place, room, random)?.map_err(refused)?;
+        place = page.place;
+        all.extend(page.list);
     }
+    same(|| format!("all pages{}", listing.text()), Ok(&all), &whole)?;
     let fields = all.len() / 3;
     if rows <= FEW_ROWS {
         return (0..fields).try_for_each(|number| compare_field(listing, number, &all));

@@ -1,6 +1,6 @@
 //! Schemas and row blocks.
 
-use super::pages::{compare_huge, compare_some, compare_whole, Listing};
+use super::pages::{compare_any, compare_huge, compare_whole, Listing};
 use super::{any_index, by_bytes, edge_number, hex, same, Tally};
 use crate::ffi::{rows, Called, Field, Lent, Page};
 use crate::generate::rows::{self as generate, Case};
@@ -48,32 +48,34 @@ pub fn run_case(case: u64, random: &mut Random, tally: &mut Tally) -> Result<(),
         let question = || format!("block field, row {row}, column {column}{}", text(&case));
         same(question, rows::block_field(&schema, &block, row, column, random), expected)?;
     }
-    let (rows, fields) = (rows.unwrap_or(3), columns as usize);
-    let lent = LentBlock { schema: &schema, block: &block, judged: &judged, rows, fields };
-    if judged.is_err() {
-        return compare_some(&lent, 1, random, tally);
-    }
-    compare_some(&lent, 4, random, tally)?;
-    compare_whole(&lent, random)?;
+    let (rows, fields) = (count as u32, columns as usize);
+    let judged = judged.as_ref().map_err(|&refusal| refusal);
+    let lent = LentBlock { case: &case, schema: &schema, block: &block, judged, rows, fields };
+    compare_pages(&lent, random, tally)?;
     if edge == Some(0) {
         compare_huge(&lent)?;
     }
     Ok(())
 }
 
-/// A block that is listed by pages.
-struct LentBlock<'a> {
-    schema: &'a Lent<u8>,
-    block: &'a Lent<u8>,
-    judged: &'a Result<Block<'a>, u32>,
-    rows: u32,
-    fields: usize,
+fn compare_pages(block: &LentBlock, random: &mut Random, tally: &mut Tally) -> Result<(), String> {
+    if block.judged.is_err() {
+        return compare_any(block, random, tally);
+    }
+    for _ in 0..4 {
+        compare_any(block, random, tally)?;
+    }
+    compare_whole(block, random)
 }
 
-impl LentBlock<'_> {
-    fn judged(&self) -> Result<&Block<'_>, u32> {
-        self.judged.as_ref().map_err(|&refusal| refusal)
-    }
+/// A block that is listed by pages.
+struct LentBlock<'a> {
+    case: &'a Case,
+    schema: &'a Lent<u8>,
+    block: &'a Lent<u8>,
+    judged: Result<&'a Block<'a>, u32>,
+    rows: u32,
+    fields: usize,
 }
 
 impl Listing for LentBlock<'_> {
@@ -94,16 +96,15 @@ impl Listing for LentBlock<'_> {
     }
 
     fn reference(&self, place: u32, list: &mut [u64]) -> Result<u32, u32> {
-        Ok(self.judged()?.page(place, list))
+        Ok(self.judged?.page(place, list))
     }
 
     fn field(&self, row: u32, field: usize) -> Result<Answer, u32> {
-        self.judged()?.field(row, field as u32)
+        self.judged?.field(row, field as u32)
     }
 
     fn text(&self) -> String {
-        let (schema, block) = (hex(self.schema.content()), hex(self.block.content()));
-        format!("\nschema {schema}\nblock {block}")
+        text(self.case)
     }
 }
 

@@ -41,7 +41,7 @@ struct Outputs {
 }
 
 impl Outputs {
-    unsafe fn list(&self) -> &'static mut [u64] {
+    unsafe fn list<'a>(&self) -> &'a mut [u64] {
         from_raw_parts_mut(self.list, self.room)
     }
 
