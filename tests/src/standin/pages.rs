@@ -16,7 +16,8 @@ pub fn faults() -> Vec<(&'static str, String)> {
     let huge = if HugeList::new(HUGE).is_some() { plans::HUGE } else { &[] };
     let both = plans::BOTH.iter().chain(huge).map(|(name, _)| *name);
     let both = both.chain(fields::FAULTS.iter().map(|(name, _)| *name)).chain(refusals::BOTH);
-    let rows = plans::OF_BLOCKS.iter().map(|(name, _)| *name);
+    let both = both.chain(plans::HARM);
+    let rows = plans::OF_BLOCKS.iter().map(|(name, _)| *name).chain(plans::HARM_OF_BLOCKS);
     let rows = both.clone().chain(rows).chain(fields::OF_BLOCKS).chain(refusals::OF_BLOCKS);
     let buckets = both.chain(refusals::OF_BUCKETS).chain(columns::faults());
     let mut faults: Vec<(&str, String)> = refusals::numbers();

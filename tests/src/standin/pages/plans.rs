@@ -226,5 +226,27 @@ pub unsafe fn give(to: &Outputs, listed: &Listed) -> u32 {
     if let (Some(to), Some(rows)) = (to.rows, plan.rows) {
         to.write(rows);
     }
+    harm(to);
     0
+}
+
+pub const HARM: [&str; 3] =
+    ["page-written-before-the-list", "page-place-as-eight-bytes", "page-given-as-eight-bytes"];
+pub const HARM_OF_BLOCKS: [&str; 1] = ["page-rows-as-eight-bytes"];
+
+/// Changes memory beside the outputs, if that is planted.
+unsafe fn harm(to: &Outputs) {
+    if planted("page-written-before-the-list") && to.room > 0 {
+        *to.list.sub(1) ^= 1;
+    }
+    let eight_bytes = |name, to: *mut u32| {
+        if planted(name) {
+            to.add(1).write(0);
+        }
+    };
+    eight_bytes("page-place-as-eight-bytes", to.place);
+    eight_bytes("page-given-as-eight-bytes", to.given);
+    if let Some(rows) = to.rows {
+        eight_bytes("page-rows-as-eight-bytes", rows);
+    }
 }
