@@ -1,7 +1,7 @@
 //! The comparison of the library with the second program, case by case.
 
 #[cfg(any(feature = "rows", feature = "buckets"))]
-use crate::ffi::{Called, Field};
+use crate::ffi::Called;
 use crate::generate::Random;
 use std::collections::BTreeMap;
 use std::fmt::Debug;
@@ -16,6 +16,8 @@ mod buckets;
 mod combine;
 #[cfg(feature = "numbers")]
 mod numbers;
+#[cfg(any(feature = "rows", feature = "buckets"))]
+mod pages;
 #[cfg(feature = "combine")]
 mod plans;
 #[cfg(feature = "rows")]
@@ -117,7 +119,7 @@ pub fn groups() -> Vec<Group> {
         #[cfg(feature = "rows")]
         Group {
             name: "rows",
-            refusals: &[20, 21, 22, 23, 24, 25],
+            refusals: &ROW_OUTCOMES,
             times: 1,
             default_cases: 200_000,
             run_case: rows::run_case,
@@ -125,13 +127,21 @@ pub fn groups() -> Vec<Group> {
         #[cfg(feature = "buckets")]
         Group {
             name: "buckets",
-            refusals: &[20, 25, 30, 31, 32, 33, 34, 35, 36, 37],
+            refusals: &BUCKET_OUTCOMES,
             times: 1,
             default_cases: 200_000,
             run_case: buckets::run_case,
         },
     ]
 }
+
+/// The refusals of check and field, then the outcomes of pages.
+#[cfg(feature = "rows")]
+const ROW_OUTCOMES: [u32; 12] = [20, 21, 22, 23, 24, 25, 100, 120, 121, 122, 123, 124];
+/// The refusals of check and field, then the outcomes of pages.
+#[cfg(feature = "buckets")]
+const BUCKET_OUTCOMES: [u32; 21] =
+    [20, 25, 30, 31, 32, 33, 34, 35, 36, 37, 100, 120, 125, 130, 131, 132, 133, 134, 135, 136, 137];
 
 /// The cases from here on are the edges of a group, as many as it has.
 const FIRST_EDGE: u64 = 1000;
@@ -219,10 +229,13 @@ fn room_to_combine(random: &mut Random, length: usize) -> usize {
     }
 }
 
-/// A field's answer, with the bytes of its place instead of the place.
+/// An answer, with the bytes of its places instead of the places.
 #[cfg(any(feature = "rows", feature = "buckets"))]
-fn by_bytes(answer: Called<Field>, bytes: &[u8]) -> Result<Result<(Field, Vec<u8>), u32>, String> {
-    answer?.map_or_else(|refusal| Ok(Err(refusal)), |field| field.by_bytes(bytes).map(Ok))
+fn by_bytes<A, B>(
+    answer: Called<A>,
+    by_bytes: impl FnOnce(A) -> Result<B, String>,
+) -> Result<Result<B, u32>, String> {
+    answer?.map_or_else(|refusal| Ok(Err(refusal)), |answer| by_bytes(answer).map(Ok))
 }
 
 /// A row or column to ask for: mostly one of `count`, at times an absent one.

@@ -5,6 +5,9 @@ use crate::generate::Random;
 use std::ops::Range;
 use std::ptr::NonNull;
 
+#[cfg(any(feature = "rows", feature = "buckets"))]
+pub mod huge;
+
 /// What a call answered: its outputs or its refusal. The outer error tells of harmed memory.
 pub type Called<T> = Result<Result<T, u32>, String>;
 
@@ -623,19 +626,17 @@ pub struct Field {
 impl From<crate::reference::Answer> for Field {
     fn from(answer: crate::reference::Answer) -> Field {
         use crate::reference::Answer;
-        let mut field = Field { kind: 0, whole: 0, bits: 0, nanos: 0, start: 0, length: 0 };
+        let [kind, _, _] = answer.numbers();
+        let mut field =
+            Field { kind: kind as u8, whole: 0, bits: 0, nanos: 0, start: 0, length: 0 };
         match answer {
             Answer::Null => {}
-            Answer::YesNo(yes) => (field.kind, field.whole) = (1, yes.into()),
-            Answer::Whole(whole) => (field.kind, field.whole) = (2, whole),
-            Answer::Float(bits) => (field.kind, field.bits) = (3, bits.into()),
-            Answer::Double(bits) => (field.kind, field.bits) = (4, bits),
-            Answer::Time { count, nanos } => {
-                (field.kind, field.whole, field.nanos) = (5, count, nanos)
-            }
-            Answer::Place { start, length } => {
-                (field.kind, field.start, field.length) = (6, start, length)
-            }
+            Answer::YesNo(yes) => field.whole = yes.into(),
+            Answer::Whole(whole) => field.whole = whole,
+            Answer::Float(bits) => field.bits = bits.into(),
+            Answer::Double(bits) => field.bits = bits,
+            Answer::Time { count, nanos } => (field.whole, field.nanos) = (count, nanos),
+            Answer::Place { start, length } => (field.start, field.length) = (start, length),
         }
         field
     }
@@ -645,11 +646,17 @@ impl From<crate::reference::Answer> for Field {
 impl Field {
     /// The answer without its place, and the bytes of that place, which lies in these bytes.
     pub fn by_bytes(self, bytes: &[u8]) -> Result<(Field, Vec<u8>), String> {
-        let end = self.start.checked_add(self.length);
-        let part = end.and_then(|end| bytes.get(self.start..end));
-        let part = part.ok_or(format!("{self:?} lies outside of {} bytes", bytes.len()))?;
-        Ok((Field { start: 0, ..self }, part.to_vec()))
+        let part = part(bytes, self.start, self.length)?;
+        Ok((Field { start: 0, ..self }, part))
     }
+}
+
+/// The bytes of a place.
+#[cfg(any(feature = "rows", feature = "buckets"))]
+fn part(bytes: &[u8], start: usize, length: usize) -> Result<Vec<u8>, String> {
+    let part = start.checked_add(length).and_then(|end| bytes.get(start..end));
+    let outside = || format!("{length} bytes from {start} on lie outside of {}", bytes.len());
+    part.map(<[u8]>::to_vec).ok_or_else(outside)
 }
 
 /// Pointers to the six outputs of a field call.
@@ -694,6 +701,83 @@ fn field(
         start: start.value(),
         length: length.value(),
     })
+}
+
+/// What a page call leaves: its place, how many rows it gave, how many there are, and their numbers.
+#[cfg(any(feature = "rows", feature = "buckets"))]
+#[derive(Clone, Debug, PartialEq, Eq)]
+pub struct Page {
+    pub place: u32,
+    pub given: u32,
+    pub rows: u32,
+    pub list: Vec<u64>,
+}
+
+#[cfg(any(feature = "rows", feature = "buckets"))]
+impl Page {
+    /// The first page of a call that sets place, given and rows, into a list too large to be copied and
+    /// without guard cells. Its numbers stay in that list.
+    fn in_place(call: impl FnOnce(&mut u32, &mut u32, &mut u32) -> u32) -> Result<Page, u32> {
+        let mut page = Page { place: 0, given: 0, rows: 0, list: Vec::new() };
+        match call(&mut page.place, &mut page.given, &mut page.rows) {
+            0 => Ok(page),
+            code => Err(code),
+        }
+    }
+
+    /// The page without the starts of its places, and the bytes of those places, which lie in these.
+    pub fn by_bytes(mut self, bytes: &[u8]) -> Result<(Page, Vec<Vec<u8>>), String> {
+        let mut parts = Vec::new();
+        for field in self.list.chunks_mut(3).filter(|field| field[0] == 6) {
+            parts.push(part(bytes, field[1] as usize, field[2] as usize)?);
+            field[1] = 0;
+        }
+        Ok((self, parts))
+    }
+}
+
+/// What a page call of blocks or buckets takes and sets alike.
+#[cfg(any(feature = "rows", feature = "buckets"))]
+struct LentPage {
+    place: Lent<u32>,
+    list: Lent<u64>,
+    given: Lent<u32>,
+}
+
+#[cfg(any(feature = "rows", feature = "buckets"))]
+impl LentPage {
+    fn new(place: u32, room: usize, random: &mut Random) -> LentPage {
+        LentPage {
+            place: Lent::scalar("place", place, random),
+            list: Lent::output("list", room, random),
+            given: Lent::output("given", 1, random),
+        }
+    }
+
+    /// What the call left, of whose list each row takes so many numbers.
+    fn settle(
+        &self,
+        code: u32,
+        numbers: usize,
+        inputs: &[&dyn Memory],
+        others: &[(&dyn Memory, usize)],
+        rows: u32,
+    ) -> Called<Page> {
+        let mut count = 0;
+        if code == 0 {
+            let given = self.given.value() as usize;
+            count = within("given, in numbers", given * numbers, self.list.length)?;
+        }
+        let mut outputs: Vec<(&dyn Memory, usize)> =
+            vec![(&self.place, 1), (&self.list, count), (&self.given, 1)];
+        outputs.extend(others);
+        settle(code, inputs, &outputs, || Page {
+            place: self.place.value(),
+            given: self.given.value(),
+            rows,
+            list: self.list.content()[..count].to_vec(),
+        })
+    }
 }
 
 #[cfg(feature = "numbers")]
@@ -805,6 +889,17 @@ pub mod rows {
                 start: *mut usize,
                 length: *mut usize,
             ) -> u32;
+            pub fn bv_block_page(
+                schema: *const u8,
+                schema_len: usize,
+                block: *const u8,
+                block_len: usize,
+                place: *mut u32,
+                list: *mut u64,
+                room: usize,
+                given: *mut u32,
+                rows: *mut u32,
+            ) -> u32;
         }
     }
     pub use calls::*;
@@ -882,6 +977,53 @@ pub mod rows {
             )
         })
     }
+
+    /// A page of a block whose rows take so many numbers each.
+    pub fn block_page(
+        schema: &Lent<u8>,
+        block: &Lent<u8>,
+        numbers: usize,
+        place: u32,
+        room: usize,
+        random: &mut Random,
+    ) -> Called<Page> {
+        let mut page = LentPage::new(place, room, random);
+        let mut rows = Lent::output("rows", 1, random);
+        let code = unsafe {
+            bv_block_page(
+                schema.pointer(),
+                schema.length,
+                block.pointer(),
+                block.length,
+                page.place.pointer_mut(),
+                page.list.pointer_mut(),
+                room,
+                page.given.pointer_mut(),
+                rows.pointer_mut(),
+            )
+        };
+        page.settle(code, numbers, &[schema, block], &[(&rows, 1)], rows.value())
+    }
+
+    pub fn block_page_in_place(
+        schema: &Lent<u8>,
+        block: &Lent<u8>,
+        list: &mut [u64],
+    ) -> Result<Page, u32> {
+        Page::in_place(|place, given, rows| unsafe {
+            bv_block_page(
+                schema.pointer(),
+                schema.length,
+                block.pointer(),
+                block.length,
+                place,
+                list.as_mut_ptr(),
+                list.len(),
+                given,
+                rows,
+            )
+        })
+    }
 }
 
 #[cfg(feature = "buckets")]
@@ -911,6 +1053,18 @@ pub mod buckets {
                 nanos: *mut u32,
                 start: *mut usize,
                 length: *mut usize,
+            ) -> u32;
+            pub fn bv_bucket_page(
+                schema: *const u8,
+                schema_len: usize,
+                rows: u32,
+                bucket: *const u8,
+                bucket_len: usize,
+                column: u32,
+                place: *mut u32,
+                list: *mut u64,
+                room: usize,
+                given: *mut u32,
             ) -> u32;
         }
     }
@@ -946,6 +1100,58 @@ pub mod buckets {
                 to.nanos,
                 to.start,
                 to.length,
+            )
+        })
+    }
+
+    /// A page of one column of a bucket of so many rows.
+    pub fn bucket_page(
+        schema: &Lent<u8>,
+        rows: u32,
+        bucket: &Lent<u8>,
+        column: u32,
+        place: u32,
+        room: usize,
+        random: &mut Random,
+    ) -> Called<Page> {
+        let mut page = LentPage::new(place, room, random);
+        let code = unsafe {
+            bv_bucket_page(
+                schema.pointer(),
+                schema.length,
+                rows,
+                bucket.pointer(),
+                bucket.length,
+                column,
+                page.place.pointer_mut(),
+                page.list.pointer_mut(),
+                room,
+                page.given.pointer_mut(),
+            )
+        };
+        page.settle(code, 3, &[schema, bucket], &[], rows)
+    }
+
+    pub fn bucket_page_in_place(
+        schema: &Lent<u8>,
+        rows: u32,
+        bucket: &Lent<u8>,
+        column: u32,
+        list: &mut [u64],
+    ) -> Result<Page, u32> {
+        Page::in_place(|place, given, of_page| unsafe {
+            *of_page = rows;
+            bv_bucket_page(
+                schema.pointer(),
+                schema.length,
+                rows,
+                bucket.pointer(),
+                bucket.length,
+                column,
+                place,
+                list.as_mut_ptr(),
+                list.len(),
+                given,
             )
         })
     }

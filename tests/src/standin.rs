@@ -9,6 +9,7 @@ use std::sync::OnceLock;
 
 mod explain;
 mod numbers;
+mod pages;
 mod places;
 mod store;
 mod widths;
@@ -45,6 +46,7 @@ pub fn faults() -> Vec<(&'static str, String)> {
     faults.extend(explain::faults().into_iter().map(|name| ("bitmap_read", name)));
     faults.extend(widths::faults());
     faults.extend(numbers::faults());
+    faults.extend(pages::faults());
     faults.extend(store::faults());
     faults
 }

@@ -13,22 +13,31 @@ fn time(seconds: f64) -> String {
     }
 }
 
+/// Small ratios with more digits.
+fn ratio(ratio: f64) -> String {
+    match ratio {
+        r if r < 0.05 => format!("{r:.5}"),
+        r => format!("{r:.2}"),
+    }
+}
+
 fn print(line: &Line) {
     let roaring = line.roaring.map_or("-".to_string(), time);
     let earlier = match &line.earlier {
         Some(earlier) => {
-            format!(" {} | {:.2} | {:.2} |", time(earlier.time), earlier.ratio, earlier.change)
+            let (ratio, change) = (ratio(earlier.ratio), ratio(earlier.change));
+            format!(" {} | {ratio} | {change} |", time(earlier.time))
         }
         None if std::env::var("BV_BEFORE").is_ok() => " - | - | - |".to_string(),
         None => String::new(),
     };
     println!(
-        "| {} | {} | {} | {} | {:.2} | {} |{}",
+        "| {} | {} | {} | {} | {} | {} |{}",
         line.call,
         line.input,
         time(line.library),
         time(line.reference),
-        line.ratio,
+        ratio(line.ratio),
         roaring,
         earlier
     );

@@ -1,14 +1,16 @@
 //! Schemas and row blocks.
 
+use super::pages::{compare_any, compare_huge, compare_whole, Listing};
 use super::{any_index, by_bytes, edge_number, hex, same, Tally};
-use crate::ffi::{rows, Field, Lent};
+use crate::ffi::{rows, Called, Field, Lent, Page};
 use crate::generate::rows::{self as generate, Case};
 use crate::generate::{schema as generate_schema, Random};
 use crate::reference::rows::Block;
-use crate::reference::schema;
+use crate::reference::{schema, Answer};
 
 pub fn run_case(case: u64, random: &mut Random, tally: &mut Tally) -> Result<(), String> {
-    let case = match edge_number(case).and_then(generate::edge) {
+    let edge = edge_number(case);
+    let case = match edge.and_then(generate::edge) {
         Some(case) => case,
         None if random.once_in(3) => {
             let [shortest, padded] = generate::twins(random);
@@ -46,7 +48,64 @@ pub fn run_case(case: u64, random: &mut Random, tally: &mut Tally) -> Result<(),
         let question = || format!("block field, row {row}, column {column}{}", text(&case));
         same(question, rows::block_field(&schema, &block, row, column, random), expected)?;
     }
+    let (rows, fields) = (count as u32, columns as usize);
+    let judged = judged.as_ref().map_err(|&refusal| refusal);
+    let lent = LentBlock { case: &case, schema: &schema, block: &block, judged, rows, fields };
+    compare_pages(&lent, random, tally)?;
+    if edge == Some(0) {
+        compare_huge(&lent)?;
+    }
     Ok(())
+}
+
+fn compare_pages(block: &LentBlock, random: &mut Random, tally: &mut Tally) -> Result<(), String> {
+    if block.judged.is_err() {
+        return compare_any(block, random, tally);
+    }
+    for _ in 0..4 {
+        compare_any(block, random, tally)?;
+    }
+    compare_whole(block, random)
+}
+
+/// A block that is listed by pages.
+struct LentBlock<'a> {
+    case: &'a Case,
+    schema: &'a Lent<u8>,
+    block: &'a Lent<u8>,
+    judged: Result<&'a Block<'a>, u32>,
+    rows: u32,
+    fields: usize,
+}
+
+impl Listing for LentBlock<'_> {
+    fn rows(&self) -> u32 {
+        self.rows
+    }
+
+    fn fields(&self) -> usize {
+        self.fields
+    }
+
+    fn library(&self, place: u32, room: usize, random: &mut Random) -> Called<Page> {
+        rows::block_page(self.schema, self.block, 3 * self.fields, place, room, random)
+    }
+
+    fn library_in_place(&self, list: &mut [u64]) -> Result<Page, u32> {
+        rows::block_page_in_place(self.schema, self.block, list)
+    }
+
+    fn reference(&self, place: u32, list: &mut [u64]) -> Result<u32, u32> {
+        Ok(self.judged?.page(place, list))
+    }
+
+    fn field(&self, row: u32, field: usize) -> Result<Answer, u32> {
+        self.judged?.field(row, field as u32)
+    }
+
+    fn text(&self) -> String {
+        text(self.case)
+    }
 }
 
 fn text(case: &Case) -> String {
@@ -76,11 +135,20 @@ fn compare_twins(shortest: &Case, padded: &Case, random: &mut Random) -> Result<
         let column = any_index(random, columns as usize);
         let [expected, answer] =
             [(&schema, &block), (&padded_schema, &padded_block)].map(|(schema, block)| {
-                by_bytes(rows::block_field(schema, block, row, column, random), block.content())
+                let answer = rows::block_field(schema, block, row, column, random);
+                by_bytes(answer, |field| field.by_bytes(block.content()))
             });
         same(|| question(&format!("block field, row {row}, column {column}")), answer, expected?)?;
     }
-    Ok(())
+    let numbers = 3 * columns.max(1) as usize;
+    let room = numbers * random.between(1, count.unwrap_or(0) as usize + 1);
+    let place = random.below(2) as u32;
+    let [expected, answer] =
+        [(&schema, &block), (&padded_schema, &padded_block)].map(|(schema, block)| {
+            let answer = rows::block_page(schema, block, numbers, place, room, random);
+            by_bytes(answer, |page| page.by_bytes(block.content()))
+        });
+    same(|| question(&format!("block page from {place}, room {room}")), answer, expected?)
 }
 
 /// A schema alone: it is damaged far more often than one that comes with a block.

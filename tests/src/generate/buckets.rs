@@ -2,8 +2,8 @@
 
 use super::numbers::{all_forms, bad_varint, damage_number, Around, Number, Numbers};
 use super::schema::{
-    bad_boolean, bad_counted, bad_nanoseconds, bits_width, columns, damaged_schema, lay_schema,
-    value, Value,
+    bad_boolean, bad_counted, bad_nanoseconds, bits_width, columns, damaged_schema, every_type,
+    lay_schema, value, Value,
 };
 use super::{damage_bytes, Random};
 use crate::reference::schema::{Column, Type};
@@ -139,7 +139,8 @@ fn row_count(random: &mut Random) -> usize {
     match random.below(2000) {
         0 => random.pick(&[65_535, 65_536]),
         1..=20 => random.between(100, 1000),
-        21..=200 => random.between(15, 40),
+        21..=40 => random.between(60, 70),
+        41..=200 => random.between(15, 40),
         201..=400 => 0,
         401..=600 => 1,
         601..=900 => random.between(7, 9),
@@ -164,15 +165,34 @@ fn draft_of(random: &mut Random, columns: Vec<Column>, rows: usize, tags: &[u8])
         .zip(tags.iter().cycle())
         .map(|(column, &tag)| any_column(random, column, rows, tag))
         .collect();
+    whole_draft(columns, rows, drafts)
+}
+
+fn whole_draft(columns: Vec<Column>, rows: usize, drafts: Vec<ColumnDraft>) -> Draft {
     let header = [Number::Value(columns.len() as u32), Number::Value(0)];
     Draft { columns, rows, header, tag_spare: 0, has_nulls_spare: 0, drafts, tail: Vec::new() }
 }
 
+/// What is chosen for a column; the rest is random.
+struct Choice {
+    tag: u8,
+    has_nulls: bool,
+    /// Once in how many rows it is null, where it may be.
+    share: Option<usize>,
+    /// How many entries its table has.
+    entries: Option<usize>,
+}
+
 fn any_column(random: &mut Random, column: &Column, rows: usize, tag: u8) -> ColumnDraft {
     let tag = if tag == ALL_NULL && !column.nullable && rows > 0 { PLAIN } else { tag };
+    let choice = Choice { tag, has_nulls: random.once_in(2), share: None, entries: None };
+    chosen_column(random, column, rows, choice)
+}
+
+fn chosen_column(random: &mut Random, column: &Column, rows: usize, choice: Choice) -> ColumnDraft {
     let mut draft = ColumnDraft {
-        tag,
-        has_nulls: random.once_in(2),
+        tag: choice.tag,
+        has_nulls: choice.has_nulls,
         cells: vec![None; rows],
         constant: None,
         table: None,
@@ -181,10 +201,10 @@ fn any_column(random: &mut Random, column: &Column, rows: usize, tag: u8) -> Col
         indexes: Vec::new(),
         index_count: 0,
     };
-    if tag == ALL_NULL {
+    if choice.tag == ALL_NULL {
         return draft;
     }
-    let share = random.pick(&[1, 2, 5, 1000]);
+    let share = choice.share.unwrap_or_else(|| random.pick(&[1, 2, 5, 1000]));
     let nulls: Vec<usize> = (0..rows)
         .map(|_| usize::from(draft.has_nulls && column.nullable && random.once_in(share)))
         .collect();
@@ -192,14 +212,17 @@ fn any_column(random: &mut Random, column: &Column, rows: usize, tag: u8) -> Col
         draft.nulls = pack_low_first(&nulls, 1);
     }
     let filled: Vec<usize> = (0..rows).filter(|&row| nulls[row] == 0).collect();
-    match tag {
+    match choice.tag {
         PLAIN => fill_plain(random, column.kind, &filled, &mut draft),
         CONST => {
             let value = value(random, column.kind);
             filled.iter().for_each(|&row| draft.cells[row] = Some(value.clone()));
             draft.constant = Some(value);
         }
-        _ => fill_dictionary(random, column.kind, &filled, &mut draft),
+        _ => {
+            let entries = choice.entries.unwrap_or_else(|| entry_count(random));
+            fill_dictionary(random, column.kind, &filled, entries, &mut draft);
+        }
     }
     draft
 }
@@ -215,12 +238,21 @@ fn index_width(entries: usize) -> usize {
     (1..=8).find(|&width| entries <= 1 << width).unwrap_or(8)
 }
 
-fn fill_dictionary(random: &mut Random, kind: Type, filled: &[usize], draft: &mut ColumnDraft) {
-    let count = match random.below(10) {
+fn entry_count(random: &mut Random) -> usize {
+    match random.below(10) {
         0 => random.between(2, 255),
         1 => random.pick(&[8, 9, 16, 17, 127, 128, 129, 254, 255]),
         _ => random.between(2, 5),
-    };
+    }
+}
+
+fn fill_dictionary(
+    random: &mut Random,
+    kind: Type,
+    filled: &[usize],
+    count: usize,
+    draft: &mut ColumnDraft,
+) {
     let entries: Vec<Value> = (0..count).map(|_| value(random, kind)).collect();
     let mut indexes = Vec::new();
     for &row in filled {
@@ -465,7 +497,8 @@ fn add_null(random: &mut Random, draft: &mut Draft) {
     column.nulls[row / 8] |= 1 << (row % 8);
 }
 
-/// Buckets at the largest sizes, and one past them; then each kind of number in each form.
+/// Buckets at the largest sizes, and one past them; then each kind of number in each form, and sound
+/// buckets with many fields.
 pub fn edge(number: u64) -> Option<Case> {
     static EDGES: OnceLock<Vec<Case>> = OnceLock::new();
     let bytes_column = vec![1, 13, 0];
@@ -475,8 +508,49 @@ pub fn edge(number: u64) -> Option<Case> {
         1 => case(vec![1, 1, 0], 65_537, [vec![1, 0, 0, 0], vec![7; 65_537]].concat()),
         2 => case(bytes_column, 1, one_value(16_777_216)),
         3 => case(bytes_column, 1, one_value(16_777_217)),
-        _ => EDGES.get_or_init(number_edges).get(number as usize - 4).cloned(),
+        _ => EDGES.get_or_init(other_edges).get(number as usize - 4).cloned(),
     }
+}
+
+fn other_edges() -> Vec<Case> {
+    let mut random = Random::new(11);
+    let mut out = number_edges();
+    for (i, rows) in [1, 63, 64, 65, 127, 128, 129, 200].into_iter().enumerate() {
+        for nullable in [true, false] {
+            out.push(every_encoding(&mut random, nullable, rows, i % 2 == 1));
+        }
+    }
+    for entries in [2, 3, 4, 5, 8, 9, 16, 17, 32, 33, 64, 65, 127, 128, 129, 255] {
+        out.push(dictionaries(&mut random, entries, 150));
+    }
+    out.push(dictionaries(&mut random, 200, 65_536));
+    out
+}
+
+/// Each type in PLAIN, CONST and DICT, then some in ALL_NULL: 64 columns.
+fn every_encoding(random: &mut Random, nullable: bool, rows: usize, padded: bool) -> Case {
+    let types = every_type(nullable);
+    let columns: Vec<Column> = types.iter().cycle().take(64).copied().collect();
+    let tags: Vec<u8> = (0..64).map(|i| [PLAIN, CONST, DICT, ALL_NULL][i / types.len()]).collect();
+    let draft = draft_of(random, columns, rows, &tags);
+    let numbers = if padded { Numbers::five_bytes } else { Numbers::shortest };
+    lay(&draft, &mut numbers(), &mut numbers())
+}
+
+/// Tables of so many entries and plain values, of numbers and of text, with nulls and without.
+fn dictionaries(random: &mut Random, entries: usize, rows: usize) -> Case {
+    let (mut columns, mut drafts) = (Vec::new(), Vec::new());
+    for (kind, tag) in [(Type::SmallInt, DICT), (Type::String, DICT), (Type::Bytes, PLAIN)] {
+        for nullable in [true, false] {
+            let column = Column { kind, nullable };
+            let choice =
+                Choice { tag, has_nulls: nullable, share: Some(3), entries: Some(entries) };
+            drafts.push(chosen_column(random, &column, rows, choice));
+            columns.push(column);
+        }
+    }
+    let draft = whole_draft(columns, rows, drafts);
+    lay(&draft, &mut Numbers::shortest(), &mut Numbers::shortest())
 }
 
 /// Buckets of one row with one number in each of its forms.

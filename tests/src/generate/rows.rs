@@ -2,8 +2,8 @@
 
 use super::numbers::{all_forms, bad_varint, damage_number, push_any_form, Around, Numbers};
 use super::schema::{
-    bad_boolean, bad_counted, bad_nanoseconds, bits_width, columns, damaged_schema, lay_schema,
-    value, Value,
+    bad_boolean, bad_counted, bad_nanoseconds, bits_width, columns, damaged_schema, every_type,
+    lay_schema, schema_bytes, value, Value,
 };
 use super::{damage_bytes, Random};
 use crate::reference::schema::{Column, Type};
@@ -307,7 +307,8 @@ fn bad_field(random: &mut Random, kind: Type) -> Option<Vec<u8>> {
     }
 }
 
-/// Blocks at the largest sizes, and one past them; then each kind of number in each form.
+/// Blocks at the largest sizes, and one past them; then each kind of number in each form, and sound
+/// blocks with many fields.
 pub fn edge(number: u64) -> Option<Case> {
     static EDGES: OnceLock<Vec<Case>> = OnceLock::new();
     let tiny = vec![1, 1, 1];
@@ -318,8 +319,29 @@ pub fn edge(number: u64) -> Option<Case> {
         1 => case(tiny, all_null_rows(65_537)),
         2 => case(bytes_column, one_field(16_777_216)),
         3 => case(bytes_column, one_field(16_777_217)),
-        _ => EDGES.get_or_init(number_edges).get(number as usize - 4).cloned(),
+        _ => EDGES.get_or_init(other_edges).get(number as usize - 4).cloned(),
     }
+}
+
+fn other_edges() -> Vec<Case> {
+    number_edges().into_iter().chain(full_edges()).collect()
+}
+
+/// Sound blocks of every type, with and without nulls, and one of the most rows.
+fn full_edges() -> Vec<Case> {
+    let mut random = Random::new(10);
+    let mut out = Vec::new();
+    for (nullable, count) in [(false, 19), (true, 19), (true, 64), (false, 64)] {
+        let columns: Vec<Column> = every_type(nullable).into_iter().cycle().take(count).collect();
+        for mut numbers in [Numbers::shortest(), Numbers::five_bytes()] {
+            let block = filled(&mut random, &columns, usize::MAX, 70, &mut numbers);
+            out.push(Case { schema: lay_schema(&columns, &mut numbers), block });
+        }
+    }
+    let columns = [Type::String, Type::TinyInt].map(|kind| Column { kind, nullable: true });
+    let block = filled(&mut random, &columns, usize::MAX, 65_536, &mut Numbers::shortest());
+    out.push(Case { schema: schema_bytes(&columns), block });
+    out
 }
 
 /// Schemas and one-row blocks with one number, in each of its forms.

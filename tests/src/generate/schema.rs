@@ -40,6 +40,33 @@ fn any_type(random: &mut Random) -> Type {
     }
 }
 
+/// Each way of storing a value, in a column that may be null or not.
+pub fn every_type(nullable: bool) -> Vec<Column> {
+    let length = 20;
+    let types = [
+        Type::Boolean,
+        Type::TinyInt,
+        Type::SmallInt,
+        Type::Integer,
+        Type::BigInt,
+        Type::Float,
+        Type::Double,
+        Type::Date,
+        Type::Char { length },
+        Type::VarChar { length },
+        Type::String,
+        Type::Binary { length },
+        Type::VarBinary { length },
+        Type::Bytes,
+        Type::Decimal { precision: 18, scale: 2 },
+        Type::Decimal { precision: 38, scale: 2 },
+        Type::Time { precision: 3 },
+        Type::Timestamp { precision: 3 },
+        Type::Timestamp { precision: 9 },
+    ];
+    types.map(|kind| Column { kind, nullable }).to_vec()
+}
+
 /// Mostly few columns, at times around a byte of bits, or the most.
 pub fn columns(random: &mut Random) -> Vec<Column> {
     let count = match random.below(40) {

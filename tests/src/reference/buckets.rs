@@ -2,7 +2,8 @@
 
 use super::schema::{self, Column, Type};
 use super::varint::{self, Fault};
-use super::{Answer, Refusal, MAX_BYTES, MAX_ROWS};
+use super::{page_rows, Answer, Refusal, MAX_BYTES, MAX_ROWS};
+use std::iter::{from_fn, repeat};
 
 #[derive(Clone, Copy, PartialEq, Eq)]
 enum Encoding {
@@ -63,7 +64,38 @@ impl<'a> Bucket<'a> {
         let Some(place) = self.value_place(parts, self.columns[column].kind, row)? else {
             return Ok(Answer::Null);
         };
-        Ok(read_value(self.columns[column].kind, self.bytes, place)?.0)
+        Ok(by_type(self.columns[column].kind, One { bytes: self.bytes, place }))
+    }
+
+    /// Fills the list from its start with the column's fields in the rows from the place on, as many as
+    /// it takes, and says how many.
+    pub fn page(&self, column: u32, place: u32, list: &mut [u64]) -> Result<u32, Refusal> {
+        let parts = self.parts.get(column as usize).ok_or(25u32)?;
+        let given = page_rows(self.rows, place, list.len(), 3);
+        if given > 0 {
+            let (fields, _) = list[..3 * given].as_chunks_mut();
+            self.fill(parts, self.columns[column as usize].kind, place as usize, fields);
+        }
+        Ok(given as u32)
+    }
+
+    /// The column's fields from the row on, which the bucket has.
+    fn fill(&self, parts: &Parts, kind: Type, row: usize, fields: &mut [[u64; 3]]) {
+        let bytes = self.bytes;
+        let nulls = parts.nulls.map(|start| &bytes[start..]);
+        let before = row - nulls.map_or(0, |nulls| ones_below(nulls, row));
+        let page = Page { nulls, row, fields };
+        let numbers = |&place: &usize| by_type(kind, One { bytes, place }).numbers();
+        match parts.encoding {
+            Encoding::AllNull => page.fields.fill(Answer::Null.numbers()),
+            Encoding::Const => page.fill(repeat(numbers(&parts.values[0]))),
+            Encoding::Dict => {
+                let table: Vec<[u64; 3]> = parts.values.iter().map(numbers).collect();
+                let (indexes, width) = (&bytes[parts.data..], index_width(table.len()));
+                page.fill((before..).map(|index| table[packed_index(indexes, width, index)]));
+            }
+            Encoding::Plain => by_type(kind, Plain { bytes, data: parts.data, before, page }),
+        }
     }
 
     /// Where the value of the row starts; nothing if it is null.
@@ -115,6 +147,18 @@ pub fn field(
     column: u32,
 ) -> Result<Answer, Refusal> {
     Bucket::judge(schema, rows, bucket)?.field(row, column)
+}
+
+/// A page of the column: how many rows it gives.
+pub fn page(
+    schema: &[u8],
+    rows: u32,
+    bucket: &[u8],
+    column: u32,
+    place: u32,
+    list: &mut [u64],
+) -> Result<u32, Refusal> {
+    Bucket::judge(schema, rows, bucket)?.page(column, place, list)
 }
 
 struct Reader<'a> {
@@ -357,34 +401,112 @@ fn counted(kind: Type, bytes: &[u8], place: usize) -> Result<(usize, usize), Ref
     Ok((start, length as usize))
 }
 
-/// The answer of the value at the place, and where the value ends.
-fn read_value(kind: Type, bytes: &[u8], place: usize) -> Result<(Answer, usize), Refusal> {
-    let end = value_end(kind, bytes, place)?;
-    let value = &bytes[place..end];
-    let answer = match kind {
-        Type::Boolean => Answer::YesNo(value[0] == 1),
-        Type::TinyInt | Type::SmallInt | Type::Integer | Type::Date | Type::Time { .. } => {
-            Answer::Whole(signed(value))
-        }
-        Type::BigInt | Type::Decimal { precision: 0..=18, .. } => Answer::Whole(signed(value)),
-        Type::Float => Answer::Float(signed(value) as u32),
-        Type::Double => Answer::Double(signed(value) as u64),
-        Type::Timestamp { precision } => Answer::Time {
-            count: signed(&value[..8]),
-            nanos: if precision > 6 { nanoseconds(value) } else { 0 },
-        },
-        _ => {
-            let (start, length) = counted(kind, bytes, place)?;
-            Answer::Place { start, length }
-        }
-    };
-    Ok((answer, end))
+/// Something done with sound values of one type: each of W bytes, or each with a length before it.
+trait Values: Sized {
+    type Done;
+    fn fixed<const W: usize>(self, answer: impl Fn([u8; W]) -> Answer) -> Self::Done;
+    fn counted(self) -> Self::Done;
 }
 
-/// A signed number, big endian, of 1 to 8 bytes.
-fn signed(value: &[u8]) -> i64 {
-    let first = if value[0] >= 0x80 { -1 } else { 0 };
-    value.iter().fold(first, |number, &byte| number << 8 | i64::from(byte))
+/// Does it with values of this type.
+fn by_type<V: Values>(kind: Type, values: V) -> V::Done {
+    match kind {
+        Type::Boolean => values.fixed(|[byte]| Answer::YesNo(byte == 1)),
+        Type::TinyInt => values.fixed(|value| Answer::Whole(i8::from_be_bytes(value).into())),
+        Type::SmallInt => values.fixed(|value| Answer::Whole(i16::from_be_bytes(value).into())),
+        Type::Integer | Type::Date | Type::Time { .. } => {
+            values.fixed(|value| Answer::Whole(i32::from_be_bytes(value).into()))
+        }
+        Type::BigInt | Type::Decimal { precision: 0..=18, .. } => {
+            values.fixed(|value| Answer::Whole(i64::from_be_bytes(value)))
+        }
+        Type::Float => values.fixed(|value| Answer::Float(u32::from_be_bytes(value))),
+        Type::Double => values.fixed(|value| Answer::Double(u64::from_be_bytes(value))),
+        Type::Timestamp { precision: 0..=6 } => {
+            values.fixed(|value| Answer::Time { count: i64::from_be_bytes(value), nanos: 0 })
+        }
+        Type::Timestamp { .. } => values.fixed(|value: [u8; 12]| Answer::Time {
+            count: i64::from_be_bytes(*value.first_chunk().unwrap()),
+            nanos: nanoseconds(&value),
+        }),
+        _ => values.counted(),
+    }
+}
+
+/// Start and length of a sound value with a length, which lies at the place.
+fn sound_counted(bytes: &[u8], place: usize) -> (usize, usize) {
+    counted(Type::Bytes, bytes, place).expect("a sound value")
+}
+
+/// The answer of one value.
+struct One<'a> {
+    bytes: &'a [u8],
+    place: usize,
+}
+
+impl Values for One<'_> {
+    type Done = Answer;
+
+    fn fixed<const W: usize>(self, answer: impl Fn([u8; W]) -> Answer) -> Answer {
+        answer(*self.bytes[self.place..].first_chunk().expect("a sound value"))
+    }
+
+    fn counted(self) -> Answer {
+        let (start, length) = sound_counted(self.bytes, self.place);
+        Answer::Place { start, length }
+    }
+}
+
+/// The fields of one column from a row on.
+struct Page<'a> {
+    nulls: Option<&'a [u8]>,
+    row: usize,
+    fields: &'a mut [[u64; 3]],
+}
+
+impl Page<'_> {
+    /// Fills the rows that are not null with these values, in order.
+    fn fill(self, mut values: impl Iterator<Item = [u64; 3]>) {
+        let mut next = || values.next().expect("a value for each row");
+        let Some(nulls) = self.nulls else {
+            self.fields.iter_mut().for_each(|field| *field = next());
+            return;
+        };
+        for (row, field) in (self.row..).zip(self.fields) {
+            let null = nulls[row / 8] >> (row % 8) & 1 == 1;
+            *field = if null { Answer::Null.numbers() } else { next() };
+        }
+    }
+}
+
+/// A page of plain values: of those at `data`, from value number `before` on.
+struct Plain<'a> {
+    bytes: &'a [u8],
+    data: usize,
+    before: usize,
+    page: Page<'a>,
+}
+
+impl Values for Plain<'_> {
+    type Done = ();
+
+    fn fixed<const W: usize>(self, answer: impl Fn([u8; W]) -> Answer) {
+        let (values, _) = self.bytes[self.data + W * self.before..].as_chunks();
+        self.page.fill(values.iter().map(|&value| answer(value).numbers()));
+    }
+
+    fn counted(self) {
+        let mut place = self.data;
+        let mut next = || {
+            let (start, length) = sound_counted(self.bytes, place);
+            place = start + length;
+            Some(Answer::Place { start, length }.numbers())
+        };
+        for _ in 0..self.before {
+            next();
+        }
+        self.page.fill(from_fn(next));
+    }
 }
 
 #[cfg(test)]
@@ -403,10 +525,8 @@ mod tests {
         assert_eq!(field(&schema, 3, &bucket, 0, 1), Err(25));
     }
 
-    #[test]
-    fn encodings_with_nulls() {
-        // PLAIN VARCHAR, CONST SMALLINT, ALL_NULL DOUBLE, DICT TIMESTAMP(9); three rows.
-        let schema = [4, 9, 1, 5, 2, 1, 6, 1, 16, 1, 9];
+    /// PLAIN VARCHAR, CONST SMALLINT, ALL_NULL DOUBLE, DICT TIMESTAMP(9); three rows.
+    fn four_encodings() -> ([u8; 11], Vec<u8>) {
         let mut bucket = vec![4, 0, 0b10_11_01_00, 0b0011, 0xFF, 0xFE, 2];
         bucket.extend([0, 0, 0, 0, 0, 0, 0, 7, 0, 0, 0, 1]);
         bucket.extend([0xFF; 8]);
@@ -414,6 +534,12 @@ mod tests {
         bucket.extend([0b010, 0b001]);
         bucket.extend([1, b'x', 0]);
         bucket.push(0b101);
+        ([4, 9, 1, 5, 2, 1, 6, 1, 16, 1, 9], bucket)
+    }
+
+    #[test]
+    fn encodings_with_nulls() {
+        let (schema, bucket) = four_encodings();
         let ask = |row, column| field(&schema, 3, &bucket, row, column).unwrap();
         assert_eq!(ask(0, 0), Answer::Place { start: 34, length: 1 });
         assert_eq!(ask(1, 0), Answer::Null);
@@ -423,6 +549,45 @@ mod tests {
         assert_eq!(ask(1, 2), Answer::Null);
         assert_eq!(ask(0, 3), Answer::Time { count: -1, nanos: 999_999 });
         assert_eq!(ask(1, 3), Answer::Time { count: 7, nanos: 1 });
+    }
+
+    #[test]
+    fn pages_of_columns() {
+        let (schema, bucket) = four_encodings();
+        let time = [5, u64::MAX, 999_999];
+        let columns = [
+            [[6, 34, 1], [0; 3], [6, 36, 0]].concat(),
+            [[0; 3], [2, u64::MAX - 1, 0], [2, u64::MAX - 1, 0]].concat(),
+            vec![0; 9],
+            [time, [5, 7, 1], time].concat(),
+        ];
+        for (place, room) in (0..5).flat_map(|place| (0..12).map(move |room| (place, room))) {
+            let given = 3usize.saturating_sub(place).min(room / 3);
+            for (column, fields) in (0..).zip(&columns) {
+                let mut list = vec![9; room];
+                let answer = page(&schema, 3, &bucket, column, place as u32, &mut list);
+                assert_eq!(answer, Ok(given as u32), "place {place}, room {room}");
+                let (written, rest) = list.split_at(3 * given);
+                assert!(fields.iter().skip(3 * place).take(3 * given).eq(written));
+                assert!(rest.iter().all(|&number| number == 9));
+            }
+        }
+    }
+
+    #[test]
+    fn absent_columns_and_rows_of_a_page() {
+        let (schema, bucket) = four_encodings();
+        for (column, place) in [(4, 0), (4, 3), (63, 9), (64, u32::MAX), (u32::MAX, 0)] {
+            assert_eq!(page(&schema, 3, &bucket, column, place, &mut [9; 9]), Err(25));
+        }
+        assert_eq!(page(&schema, 3, &bucket, 3, u32::MAX, &mut [9; 9]), Ok(0));
+        let tiny = [1, 1, 0];
+        assert_eq!(page(&tiny, 0, &[1, 0, 3, 1], 0, 0, &mut [9; 9]), Ok(0));
+        assert_eq!(page(&tiny, 0, &[1, 0, 3, 1], 1, 0, &mut [9; 9]), Err(25));
+        let mut list = [9; 9];
+        assert_eq!(page(&tiny, 1, &[1, 0, 0, 0, 5, 6], 0, 0, &mut list), Err(36));
+        assert_eq!(page(&tiny, 1, &[1, 0, 0, 0, 5, 6], 1, 0, &mut list), Err(36));
+        assert_eq!(list, [9; 9]);
     }
 
     #[test]

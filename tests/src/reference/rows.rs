@@ -1,7 +1,7 @@
 //! Row blocks: rows, one 4-byte offset a row, a 4-byte row count, little endian.
 
 use super::schema::{self, Column, Type};
-use super::{varint, Answer, Refusal, MAX_BYTES, MAX_ROWS};
+use super::{page_rows, varint, Answer, Refusal, MAX_BYTES, MAX_ROWS};
 
 /// An accepted block.
 pub struct Block<'a> {
@@ -54,6 +54,20 @@ impl<'a> Block<'a> {
         self.walk(self.offset(row), column).ok_or(24)
     }
 
+    /// Fills the list from its start with the fields of the rows from the place on, as many whole rows
+    /// as it takes, and says how many.
+    pub fn page(&self, place: u32, list: &mut [u64]) -> u32 {
+        let numbers = 3 * self.columns.len();
+        let given = page_rows(self.rows, place, list.len(), numbers);
+        if given > 0 {
+            let mut start = self.offset(place as usize);
+            for row in list.chunks_exact_mut(numbers).take(given) {
+                start = self.fill_row(start, row).expect("a sound row");
+            }
+        }
+        given as u32
+    }
+
     fn offset(&self, row: usize) -> usize {
         number_at(self.bytes, self.rows_end + 4 * row) as usize
     }
@@ -94,7 +108,24 @@ impl<'a> Block<'a> {
                 place = field_end(before.kind, bytes, place)?;
             }
         }
-        field_answer(self.columns[column].kind, bytes, place)
+        Some(read_field(self.columns[column].kind, bytes, place)?.0)
+    }
+
+    /// Fills the list with the fields of the row that starts at the place, and says where it ends.
+    fn fill_row(&self, start: usize, list: &mut [u64]) -> Option<usize> {
+        let bytes = &self.bytes[..self.rows_end];
+        let (nulls, mut place) = self.null_bitmap(start)?;
+        let (fields, _) = list.as_chunks_mut();
+        for (i, (column, field)) in self.columns.iter().zip(fields).enumerate() {
+            *field = if null_at(nulls, i) {
+                Answer::Null.numbers()
+            } else {
+                let (answer, end) = read_field(column.kind, bytes, place)?;
+                place = end;
+                answer.numbers()
+            };
+        }
+        Some(place)
     }
 }
 
@@ -104,6 +135,17 @@ pub fn check(schema: &[u8], block: &[u8]) -> Result<u32, Refusal> {
 
 pub fn field(schema: &[u8], block: &[u8], row: u32, column: u32) -> Result<Answer, Refusal> {
     Block::judge(schema, block)?.field(row, column)
+}
+
+/// A page of the block: how many rows it gives, and how many the block has.
+pub fn page(
+    schema: &[u8],
+    block: &[u8],
+    place: u32,
+    list: &mut [u64],
+) -> Result<(u32, u32), Refusal> {
+    let block = Block::judge(schema, block)?;
+    Ok((block.page(place, list), block.rows as u32))
 }
 
 fn number_at(bytes: &[u8], place: usize) -> u32 {
@@ -163,27 +205,32 @@ fn counted(kind: Type, bytes: &[u8], place: usize) -> Option<(usize, usize)> {
     Some((start, length as usize))
 }
 
-fn field_answer(kind: Type, bytes: &[u8], place: usize) -> Option<Answer> {
+/// The field at the place, and the place after it.
+#[inline(always)]
+fn read_field(kind: Type, bytes: &[u8], place: usize) -> Option<(Answer, usize)> {
     Some(match kind {
-        Type::Boolean => Answer::YesNo(*bytes.get(place)? == 1),
-        Type::TinyInt => Answer::Whole(i8::from_le_bytes(fixed(bytes, place)?).into()),
-        Type::SmallInt => Answer::Whole(i16::from_le_bytes(fixed(bytes, place)?).into()),
+        Type::Boolean => (Answer::YesNo(*bytes.get(place)? == 1), place + 1),
+        Type::TinyInt => (Answer::Whole(i8::from_le_bytes(fixed(bytes, place)?).into()), place + 1),
+        Type::SmallInt => {
+            (Answer::Whole(i16::from_le_bytes(fixed(bytes, place)?).into()), place + 2)
+        }
         Type::Integer | Type::Date | Type::Time { .. } => {
-            Answer::Whole(i32::from_le_bytes(fixed(bytes, place)?).into())
+            (Answer::Whole(i32::from_le_bytes(fixed(bytes, place)?).into()), place + 4)
         }
         Type::BigInt | Type::Decimal { precision: 0..=18, .. } => {
-            Answer::Whole(i64::from_le_bytes(fixed(bytes, place)?))
+            (Answer::Whole(i64::from_le_bytes(fixed(bytes, place)?)), place + 8)
         }
-        Type::Float => Answer::Float(u32::from_le_bytes(fixed(bytes, place)?)),
-        Type::Double => Answer::Double(u64::from_le_bytes(fixed(bytes, place)?)),
+        Type::Float => (Answer::Float(u32::from_le_bytes(fixed(bytes, place)?)), place + 4),
+        Type::Double => (Answer::Double(u64::from_le_bytes(fixed(bytes, place)?)), place + 8),
         Type::Timestamp { precision } => {
             let count = i64::from_le_bytes(fixed(bytes, place)?);
-            let nanos = if precision > 3 { nanoseconds(bytes, place + 8)?.0 } else { 0 };
-            Answer::Time { count, nanos }
+            let (nanos, end) =
+                if precision > 3 { nanoseconds(bytes, place + 8)? } else { (0, place + 8) };
+            (Answer::Time { count, nanos }, end)
         }
         _ => {
             let (start, length) = counted(kind, bytes, place)?;
-            Answer::Place { start, length }
+            (Answer::Place { start, length }, start + length)
         }
     })
 }
@@ -329,5 +376,46 @@ mod tests {
         block[10] = 3;
         assert_eq!(check(&text, &block), Err(23));
         assert_eq!(old::ask(|| check(&text, &block)), Err(24));
+    }
+
+    /// TINYINT and STRING, three rows, and their numbers.
+    fn listed() -> ([u8; 5], Vec<u8>, Vec<u64>) {
+        let fields = [[2, u64::MAX, 0], [6, 3, 1], [0; 3], [0; 3], [2, 7, 0], [6, 8, 0]];
+        let block = block(&[&[0, 0xFF, 1, b'a'], &[0b11], &[0, 7, 0]]);
+        ([2, 1, 1, 10, 1], block, fields.concat())
+    }
+
+    #[test]
+    fn pages_of_whole_rows() {
+        let (schema, block, fields) = listed();
+        for (place, room) in (0..5).flat_map(|place| (0..20).map(move |room| (place, room))) {
+            let mut list = vec![9; room];
+            let given = 3usize.saturating_sub(place).min(room / 6);
+            let answer = page(&schema, &block, place as u32, &mut list);
+            assert_eq!(answer, Ok((given as u32, 3)), "place {place}, room {room}");
+            let (written, rest) = list.split_at(6 * given);
+            assert!(fields.iter().skip(6 * place).take(6 * given).eq(written));
+            assert!(rest.iter().all(|&number| number == 9));
+        }
+        for place in [65_536, 1 << 31, u32::MAX] {
+            assert_eq!(page(&schema, &block, place, &mut [9; 18]), Ok((0, 3)));
+        }
+        assert_eq!(page(&schema, &[0; 4], 0, &mut [9; 18]), Ok((0, 0)));
+    }
+
+    #[test]
+    fn a_refused_page_changes_nothing() {
+        let (schema, mut block, _) = listed();
+        let last_row = 5;
+        for (bad, refusal) in [(0b100, 24), (0b10, 23)] {
+            block[last_row] = bad;
+            let mut list = [9; 18];
+            assert_eq!(page(&schema, &block, 0, &mut list), Err(refusal));
+            assert_eq!(page(&schema, &block, 9, &mut list), Err(refusal));
+            assert_eq!(list, [9; 18]);
+        }
+        assert_eq!(page(&[2, 1, 1], &block, 0, &mut []), Err(20));
+        assert_eq!(page(&schema, &[0; 3], 0, &mut []), Err(21));
+        assert_eq!(page(&schema, &[0xFF; 4], 0, &mut []), Err(22));
     }
 }

@@ -49,6 +49,20 @@ pub struct Walk {
     pub ill_formed: Option<usize>,
     /// Whether each large DECIMAL of no bytes has a shortest length.
     pub empty_decimals: Vec<bool>,
+    /// The columns of a bucket, as far as the walk went.
+    pub columns: Vec<Parts>,
+}
+
+/// What a column of a bucket has.
+#[derive(Clone, Default)]
+pub struct Parts {
+    pub tag: u8,
+    /// Where its null bitmap starts, if it has one.
+    pub nulls: Option<usize>,
+    pub entries: usize,
+    /// Where its plain values or indexes start, and how many there are.
+    pub data: usize,
+    pub values: usize,
 }
 
 pub fn of_schema(bytes: &[u8]) -> Walk {
@@ -67,7 +81,12 @@ pub fn of_bucket(columns: &[Column], rows: u32, bucket: &[u8]) -> Walk {
 }
 
 fn walk(bytes: &[u8], go: impl FnOnce(&mut Walker) -> Option<()>) -> Walk {
-    let walk = Walk { spots: Vec::new(), ill_formed: None, empty_decimals: Vec::new() };
+    let walk = Walk {
+        spots: Vec::new(),
+        ill_formed: None,
+        empty_decimals: Vec::new(),
+        columns: Vec::new(),
+    };
     let mut walker = Walker { bytes, place: 0, walk };
     go(&mut walker);
     walker.walk
@@ -172,26 +191,29 @@ impl<'a> Walker<'a> {
         let marks = self.skip(columns.len().div_ceil(8))?;
         let tag = |i: usize| tags[i / 4] >> (2 * (i % 4)) & 3;
         let marked = |i: usize| marks[i / 8] >> (i % 8) & 1 == 1;
+        let part = |i: usize| Parts { tag: tag(i), values: rows, ..Parts::default() };
+        let mut parts: Vec<Parts> = (0..columns.len()).map(part).collect();
         for (_, column) in columns.iter().enumerate().filter(|&(i, _)| tag(i) == 1) {
             self.values(column.kind, 1, Role::Constant)?;
         }
-        let mut entries = vec![0; columns.len()];
         for (i, column) in columns.iter().enumerate().filter(|&(i, _)| tag(i) == 2) {
-            entries[i] = self.number(Role::Entries)?;
-            self.values(column.kind, entries[i], Role::Entry)?;
+            parts[i].entries = self.number(Role::Entries)?;
+            self.values(column.kind, parts[i].entries, Role::Entry)?;
         }
-        let mut filled = vec![rows; columns.len()];
         for i in (0..columns.len()).filter(|&i| marked(i) && tag(i) != 3) {
+            parts[i].nulls = Some(self.place);
             let nulls = self.skip(rows.div_ceil(8))?;
             let ones: u32 = nulls.iter().map(|byte| byte.count_ones()).sum();
-            filled[i] = rows.checked_sub(ones as usize)?;
+            parts[i].values = rows.checked_sub(ones as usize)?;
         }
-        for (i, column) in columns.iter().enumerate() {
-            match tag(i) {
-                0 => self.values(column.kind, filled[i], Role::Plain)?,
-                2 => self.indexes(entries[i], filled[i])?,
+        for (column, mut parts) in columns.iter().zip(parts) {
+            parts.data = self.place;
+            match parts.tag {
+                0 => self.values(column.kind, parts.values, Role::Plain)?,
+                2 => self.indexes(parts.entries, parts.values)?,
                 _ => {}
             }
+            self.walk.columns.push(parts);
         }
         Some(())
     }
