@@ -9,12 +9,36 @@ fn ask(schema: &[u8], rows: u32, bucket: &[u8], row: u32, column: u32, whole: &[
     vector_fields::print_part(buckets::part(schema, rows, bucket, row, column));
 }
 
-// The question: `schema S, rows N, bucket B`, or that and `row R, column C, whole W`.
+// The page of a column's rows from place on, and the list that it leaves.
+fn list_page(schema: &[u8], rows: u32, bucket: &[u8], column: u32, place: u32, list: &mut [u64]) {
+    let answer = bucket_list::page(schema, rows, bucket, column, place, list);
+    vector_fields::print_page(answer, list);
+}
+
+// A page into a list of so many numbers, 64 at most, each of them 7 before.
+fn page(schema: &[u8], rows: u32, bucket: &[u8], column: u32, place: u32, room: u32) {
+    let mut list = [7u64; 64];
+    let n = vector_fields::lent(room);
+    list_page(schema, rows, bucket, column, place, &mut list[..n]);
+}
+
+// The question: `schema S, rows N, bucket B`, or that and `row R, column C, whole W` or `column C, place P, room R`.
 fn question(words: &[u8], schema: &[u8], bucket: &[u8]) {
     let rows = vector_text::small(vector_text::word(words, 3));
     if vector_text::word(words, 7).len() == 0 {
         vector_text::print_after(b": ", buckets::check(schema, rows, bucket) as u64);
         vector_text::print(b"\n");
+        return;
+    }
+    if vector_text::starts(vector_text::word(words, 6), b'c') {
+        page(
+            schema,
+            rows,
+            bucket,
+            vector_text::small(vector_text::word(words, 7)),
+            vector_text::small(vector_text::word(words, 9)),
+            vector_text::small(vector_text::word(words, 11)),
+        );
         return;
     }
     ask(

@@ -12,6 +12,19 @@ fn ask(schema: &[u8], block: &[u8], row: u32, column: u32, whole: &[u8]) {
     vector_fields::print_part(rows::part(schema, block, row, column));
 }
 
+// The page of the rows from place on, and the list that it leaves.
+fn list_page(schema: &[u8], block: &[u8], place: u32, list: &mut [u64]) {
+    let answer = row_list::page(schema, block, place, list);
+    vector_fields::print_page(answer, list);
+}
+
+// A page into a list of so many numbers, 64 at most, each of them 7 before.
+fn page(schema: &[u8], block: &[u8], place: u32, room: u32) {
+    let mut list = [7u64; 64];
+    let n = vector_fields::lent(room);
+    list_page(schema, block, place, &mut list[..n]);
+}
+
 // The number of rows.
 fn count(schema: &[u8], block: &[u8]) {
     match rows::check(schema, block) {
@@ -50,7 +63,7 @@ fn number(bytes: &[u8]) {
     }
 }
 
-// The question: `number N`, `schema S, column C`, `schema S, block B`, or that and `row R, column C, whole W`.
+// The question: `number N`, `schema S, column C`, `schema S, block B`, or that and `row R, column C, whole W` or `place P, room R`.
 fn question(words: &[u8], first: &[u8], second: &[u8]) {
     if vector_text::starts(vector_text::word(words, 0), b'n') {
         number(first);
@@ -62,6 +75,15 @@ fn question(words: &[u8], first: &[u8], second: &[u8]) {
     }
     if vector_text::word(words, 5).len() == 0 {
         count(first, second);
+        return;
+    }
+    if vector_text::starts(vector_text::word(words, 4), b'p') {
+        page(
+            first,
+            second,
+            vector_text::small(vector_text::word(words, 5)),
+            vector_text::small(vector_text::word(words, 7)),
+        );
         return;
     }
     ask(

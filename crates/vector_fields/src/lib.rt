@@ -1,6 +1,8 @@
-// A field's answer on a line of vectors.
+// A field's answer, or a page's, on a line of vectors.
+ghost use Prim.Native.Nat.{_≤_};
 use row_spec::Field;
 use row_spec::FieldAnswer;
+use row_spec::PageAnswer;
 
 fn wide(n: u32) -> u64 {
     n as u64
@@ -45,4 +47,37 @@ pub fn print_answer(answer: FieldAnswer, whole: &[u8]) -> bool {
 pub fn print_part(part: &[u8]) {
     vector_text::print_after(b" part ", part.len() as u64);
     vector_text::print(b"\n");
+}
+
+// How many numbers of a list of 64 are lent.
+pub fn lent(room: u32) -> usize
+    ensures { λ r. ⌜ r ≤ 64 ⌝ }
+{
+    if 64 < room {
+        return 64;
+    }
+    room as usize
+}
+
+// Prints the numbers of a list, and ends the line.
+fn print_list(list: &[u64]) {
+    let mut i: usize = 0;
+    while i < list.len() {
+        vector_text::print_after(b" ", list[i]);
+        i += 1;
+    }
+    vector_text::print(b"\n");
+}
+
+// Prints a page's answer, and then every number of the list lent.
+pub fn print_page(answer: PageAnswer, list: &[u64]) {
+    match answer {
+        PageAnswer::Refused(n) => print_refused(n),
+        PageAnswer::Page { given, rows } => {
+            vector_text::print_after(b": given ", wide(given));
+            vector_text::print_after(b" of ", wide(rows));
+        }
+    }
+    vector_text::print(b", list");
+    print_list(list);
 }
