@@ -2,6 +2,9 @@
 ghost use mathlib.Core.Path.{_≡_};
 ghost use Rattle.common.specs.Outcome.{status};
 ghost use Rattle.bucket_spec.specs.Bucket.{bucketRefusal, bucketField};
+ghost use lib.ListN.{length};
+ghost use Rattle.bucket_spec.specs.Page.{bucketPage};
+ghost use Rattle.c_list.specs.Outputs.{PageCall};
 ghost use Rattle.c_table.specs.Outputs.{FieldCall};
 
 // Whether the bucket is sound.
@@ -44,4 +47,22 @@ pub extern "C" fn bv_bucket_field(
         start,
         length,
     )
+}
+
+// The fields of a column in the rows from place on, as many as the list takes: three numbers for each.
+#[no_mangle]
+pub extern "C" fn bv_bucket_page(
+    schema: &[u8],
+    rows: u32,
+    bucket: &[u8],
+    column: u32,
+    place: &mut u32,
+    list: &mut [u64],
+    given: &mut u32,
+) -> u32
+    ensures { λ r. ⌜ PageCall (bucketPage (now (schema .entry)) rows (now (bucket .entry)) column (now (place .entry)) (length (now (list .entry)))) r
+        (record { list = now (list .entry); place = now (place .entry); given = now (given .entry); rows = rows })
+        (record { list = now (list .exit); place = now (place .exit); given = now (given .exit); rows = rows }) ⌝ }
+{
+    c_list::bucket_page(schema, rows, bucket, column, place, list, given)
 }

@@ -2,6 +2,9 @@
 ghost use Rattle.common.specs.Outcome.{CountCall};
 ghost use Rattle.row_spec.specs.Schema.{columnCount, columnOf};
 ghost use Rattle.row_spec.specs.Block.{rowCount, blockField};
+ghost use lib.ListN.{length};
+ghost use Rattle.row_spec.specs.Page.{blockPage};
+ghost use Rattle.c_list.specs.Outputs.{PageCall};
 ghost use Rattle.c_table.specs.Outputs.{ColumnCall, FieldCall};
 
 // The number of columns.
@@ -67,4 +70,21 @@ pub extern "C" fn bv_block_field(
         start,
         length,
     )
+}
+
+// The fields of the rows from place on, as many whole rows as the list takes: three numbers for each field.
+#[no_mangle]
+pub extern "C" fn bv_block_page(
+    schema: &[u8],
+    block: &[u8],
+    place: &mut u32,
+    list: &mut [u64],
+    given: &mut u32,
+    rows: &mut u32,
+) -> u32
+    ensures { λ r. ⌜ PageCall (blockPage (now (schema .entry)) (now (block .entry)) (now (place .entry)) (length (now (list .entry)))) r
+        (record { list = now (list .entry); place = now (place .entry); given = now (given .entry); rows = now (rows .entry) })
+        (record { list = now (list .exit); place = now (place .exit); given = now (given .exit); rows = now (rows .exit) }) ⌝ }
+{
+    c_list::block_page(schema, block, place, list, given, rows)
 }

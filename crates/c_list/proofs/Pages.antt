@@ -14,6 +14,8 @@ use Rattle.row_spec.specs.Page.{Page, rowsFrom, pageOf, blockPage, written, pag
 use Rattle.row_spec.specs.declared.Field.{Field}
 use Rattle.row_spec.specs.declared.PageAnswer.{PageAnswer}
 use Rattle.row_spec.specs.declared.PageAnswer.the-variants as answer
+use Rattle.bucket_spec.specs.Page.{bucketPage}
+use Rattle.bucket_laws.proofs.Pages.{column-page-many, column-page-rows}
 use Rattle.c_list.specs.Outputs.{Listing, turned, PageCall}
 
 module _ (o : Outcome Page) (m : Listing) (list : List ℕ) (r : PageAnswer) (h : Paged o r (m .list) list) where
@@ -70,3 +72,20 @@ block-within d s p room x e =
     let a = then-found (schema d) _ x e in
     let b = then-found (block (a .0) s) _ x (a .1 .1) in
     rw (← same-found (b .1 .1)) (page-within (length (a .0)) (b .0) p room)
+
+pub bucket-within : (d : List ℕ) (n : ℕ) (s : List ℕ) (i p room : ℕ) → Within (bucketPage d n s i p room) p
+bucket-within d n s i p room x e =
+    let many = column-page-many d n s i p room x e in
+    let rows = column-page-rows d n s i p room x e in
+    omega (arith, many, rows, min-le-right (room / 3) (n - p))
+
+-- a page of a bucket says how many rows the bucket has
+pub bucket-rows : (d : List ℕ) (n : ℕ) (s : List ℕ) (i p room : ℕ) (before list : List ℕ) (r : PageAnswer)
+    → Paged (bucketPage d n s i p room) r before list
+    → (g m : ℕ) → r ≡ answer.Page g m → m ≡ n
+bucket-rows d n s i p room before list r h g m e =
+    by-outcome (bucketPage d n s i p room) (sym e ∙ h .says) (λ x q. column-page-rows d n s i p room x q)
+  where
+    by-outcome : (o : Outcome Page) → answer.Page g m ≡ pageTold o → ((x : Page) → o ≡ found x → x .rows ≡ n) → m ≡ n
+    by-outcome (refused k) q w = clash (cc)
+    by-outcome (found x) q w = let many : m ≡ x .rows = cc in many ∙ w x refl

@@ -12,35 +12,27 @@ use Rattle.c_list.proofs.block_page.Reads as reads
 use Rattle.c_list.proofs.block_page.Lts as lts
 use Rattle.row_list.proofs.page.Reads as page-reads
 
--- src/lib.rt:22:11
 page-requires : tie.Need-page-requires
 page-requires c κs = search needs
 
--- src/lib.rt:23:29
 enum-known-n : tie.Need-enum-known-n
 enum-known-n c = search needs
 
--- src/lib.rt:24:35
 enum-known-g : tie.Need-enum-known-g
 enum-known-g c = search needs
 
--- src/lib.rt:25:22
 add-place : tie.Need-add-place
 add-place c = let fits = place-fits _ _ _ _ _ (c .before .before .before .before .before .page .ensures) (block-within (c .before .before .before .before .before .before .before .before .before .before .before .args .schema .now) (c .before .before .before .before .before .before .before .before .before .before .before .args .block .now) (c .before .before .before .before .before .before .before .before .before .before .before .args .place .now) (length (c .before .before .before .before .before .before .before .before .before .before .before .args .list .now))) _ _ (c .before .g .given .1) in omega (arith, fits)
 
--- src/lib.rt:9:1
 same-length : tie.Need-same-length
 same-length c = search needs
 
--- src/lib.rt:9:1
 returns : tie.Need-returns
 returns c = let m : Listing = record { list = c .before .before .before .before .before .before .before .before .before .before .before .args .list .now; place = c .before .before .before .before .before .before .before .before .before .before .before .args .place .now; given = c .before .before .before .before .before .before .before .before .before .before .before .args .given .now; rows = c .before .before .before .before .before .before .before .before .before .before .before .args .rows .now } in refused-page _ m _ _ (c .before .before .before .before .before .page .ensures) _ (c .before .n .given .1)
 
--- src/lib.rt:9:1
 same-length-2 : tie.Need-same-length-2
 same-length-2 c = search needs
 
--- src/lib.rt:9:1
 returns-2 : tie.Need-returns-2
 returns-2 c = let m : Listing = record { list = c .before .before .before .before .before .before .before .before .before .before .before .args .list .now; place = c .before .before .before .before .before .before .before .before .before .before .before .args .place .now; given = c .before .before .before .before .before .before .before .before .before .before .before .args .given .now; rows = c .before .before .before .before .before .before .before .before .before .before .before .args .rows .now } in given-page _ m _ _ (c .before .before .before .before .before .page .ensures) _ _ (c .before .g .given .1)
 

@@ -13,19 +13,15 @@ use borrow.Author.Needs.{needs}
 use Rattle.row_list.proofs.list_block.Statement.{statement}
 use Rattle.row_list.proofs.list_block.Tie as tie
 
--- src/lib.rt:80:67
 mul-rows-given : tie.Need-mul-rows-given
 mul-rows-given c = search needs
 
--- src/lib.rt:80:53
 div-rows-given : tie.Need-div-rows-given
 div-rows-given c = search needs
 
--- src/lib.rt:80:9
 rows-given-requires : tie.Need-rows-given-requires
 rows-given-requires c κs = search needs
 
--- src/lib.rt:82:9
 returns : tie.Need-returns
 returns c =
     let args = c .before .before .before .before .before .args in
@@ -36,37 +32,29 @@ returns c =
       omega arith,
     )
 
--- src/lib.rt:84:15
 sub-end : tie.Need-sub-end
 sub-end c = search needs
 
--- src/lib.rt:84:29
 mul-end : tie.Need-mul-end
 mul-end c = search needs
 
--- src/lib.rt:84:15
 sub-end-2 : tie.Need-sub-end-2
 sub-end-2 c = search needs
 
--- src/lib.rt:85:48
 mul-little-endian : tie.Need-mul-little-endian
 mul-little-endian c = search needs
 
--- src/lib.rt:85:42
 add-little-endian : tie.Need-add-little-endian
 add-little-endian c = search needs
 
--- src/lib.rt:85:16
 little-endian-requires : tie.Need-little-endian-requires
 little-endian-requires c κs = search needs
 
--- src/lib.rt:86:15
 slice-aggregate-list-rows : tie.Need-slice-aggregate-list-rows
 slice-aggregate-list-rows c =
     let args = c .before .before .before .before .before .before .before .args in
     sym (length-take-le (length (args .s .now) - 4 - 4 * args .rows) (args .s .now) (omega arith))
 
--- src/lib.rt:86:5
 list-rows-requires : tie.Need-list-rows-requires
 list-rows-requires c κs =
     let args = c .before .before .before .before .before .before .before .before .args in
@@ -78,11 +66,9 @@ list-rows-requires c κs =
           (rows-given .ensures),
     )
 
--- src/lib.rt:76:1
 same-length : tie.Need-same-length
 same-length c = search needs
 
--- src/lib.rt:76:1
 returns-2 : tie.Need-returns-2
 returns-2 c =
     let args = c .before .before .before .before .before .before .before .before .before .before .before .args in

@@ -11,15 +11,12 @@ use borrow.Author.Needs.{needs}
 use Rattle.row_list.proofs.list_row.Statement.{statement}
 use Rattle.row_list.proofs.list_row.Tie as tie
 
--- src/lib.rt:44:14
 add-w : tie.Need-add-w
 add-w c = search needs
 
--- src/lib.rt:45:9
 has-requires : tie.Need-has-requires
 has-requires c κs = search needs
 
--- src/lib.rt:46:9
 returns : tie.Need-returns
 unfolding ceil8
 returns c =
@@ -28,7 +25,6 @@ returns c =
     row-absent (args .s .now) (args .storages) (args .n) (args .at) (pre .1) (args .k) _ (args .at)
     (sym (c .before .has .ensures) ∙ not-true _ (c .if1 .taken))
 
--- src/lib.rt:55:47
 add-list-run : tie.Need-add-list-run
 add-list-run c =
     let args = c .before .before .before .before .args in
@@ -38,15 +34,12 @@ add-list-run c =
           (sym (c .before .has .ensures) ∙ not-false _ (c .if1 .left)),
     )
 
--- src/lib.rt:55:5
 list-run-requires : tie.Need-list-run-requires
 list-run-requires c κs = search needs
 
--- src/lib.rt:33:1
 same-length : tie.Need-same-length
 same-length c = search needs
 
--- src/lib.rt:33:1
 returns-2 : tie.Need-returns-2
 unfolding ceil8
 returns-2 c =

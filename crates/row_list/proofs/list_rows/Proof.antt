@@ -20,15 +20,12 @@ Inv-loop s from given list₀ n storages at₀ k₀ r₀ list at k r = (r ≤ gi
 abbrev μ-loop : tie.MeasureT-loop
 μ-loop s from given list₀ n storages at₀ k₀ r₀ list at k r = given - r
 
--- src/lib.rt:64:9
 storages-of-requires : tie.Need-storages-of-requires Inv-loop μ-loop
 storages-of-requires c κs = search needs
 
--- src/lib.rt:68:5
 loop-holds : tie.Need-loop-holds Inv-loop μ-loop
 loop-holds c = (omega arith, refl, omega arith, λ cols stored. upto-none _ _ _ _ _)
 
--- src/lib.rt:69:9
 list-row-requires : tie.Need-list-row-requires Inv-loop μ-loop
 list-row-requires c κs =
     let args = c .before .before .before .before .before .before .args in
@@ -40,11 +37,9 @@ list-row-requires c κs =
     (pre .2) in
     (omega arith, storages-of .ensures .1, omega (arith, loop .inv .1, loop .inv .2, room))
 
--- src/lib.rt:70:14
 mul-k : tie.Need-mul-k Inv-loop μ-loop
 mul-k c = search needs
 
--- src/lib.rt:70:9
 add-k : tie.Need-add-k Inv-loop μ-loop
 add-k c =
     let args = c .before .before .before .before .before .before .before .before .before .args in
@@ -54,15 +49,12 @@ add-k c =
     let room = row-room (loop .r) (args .given) (3 * args .sc .count) (length (args .list .now)) (loop-test .taken) (pre .2) in
     omega (arith, loop .inv .2, room)
 
--- src/lib.rt:71:9
 add-r : tie.Need-add-r Inv-loop μ-loop
 add-r c = search needs
 
--- src/lib.rt:68:5
 loop-less : tie.Need-loop-less Inv-loop μ-loop
 loop-less c = omega arith
 
--- src/lib.rt:68:5
 loop-again : tie.Need-loop-again Inv-loop μ-loop
 loop-again c = (
   omega arith,
@@ -91,11 +83,9 @@ loop-again c = (
       (c .before .before .list-row .ensures)),
 )
 
--- src/lib.rt:59:1
 same-length : tie.Need-same-length Inv-loop μ-loop
 same-length c = c .before .loop .inv .1
 
--- src/lib.rt:59:1
 returns : tie.Need-returns Inv-loop μ-loop
 returns c =
     let args = c .before .before .before .before .before .args in

@@ -8,37 +8,30 @@ use borrow.Author.Needs.{needs}
 use Rattle.row_list.proofs.page.Statement.{statement}
 use Rattle.row_list.proofs.page.Tie as tie
 
--- src/lib.rt:94:9
 read-requires : tie.Need-read-requires
 read-requires c κs = search needs
 
--- src/lib.rt:97:9
 returns : tie.Need-returns
 returns c =
     let args = c .before .before .before .before .before .args in
     page-unread (args .schema-bytes .now) (args .block .now) _ (c .before .read .ensures) (args .place)
     (args .list .now) (c .if1 .taken)
 
--- src/lib.rt:100:11
 judge-requires : tie.Need-judge-requires
 judge-requires c κs =
     let args = c .before .before .before .before .before .before .args in
     let k = read-found (args .schema-bytes .now) _ (c .before .before .read .ensures) (c .before .if1 .left) in
     (k .most, k .room)
 
--- src/lib.rt:101:28
 enum-known-n : tie.Need-enum-known-n
 enum-known-n c = search needs
 
--- src/lib.rt:102:25
 enum-known-n-2 : tie.Need-enum-known-n-2
 enum-known-n-2 c = search needs
 
--- src/lib.rt:103:51
 cast-list-block : tie.Need-cast-list-block
 cast-list-block c = search needs
 
--- src/lib.rt:103:17
 list-block-requires : tie.Need-list-block-requires
 list-block-requires c κs =
     let args = c .before .before .before .before .before .before .before .before .before .before .before .args in
@@ -51,7 +44,6 @@ list-block-requires c κs =
     (if1 .left) _ _ (sym (c .before .before .n2 .given .1) ∙ judge .ensures) in
     (k .some, k .most, k .room, there .0, there .1)
 
--- src/lib.rt:105:24
 cast-t18 : tie.Need-cast-t18
 cast-t18 c =
     let args =
@@ -64,7 +56,6 @@ cast-t18 c =
     (if1 .left) _ _ (sym (n2 .given .1) ∙ judge .ensures) in
     omega (arith, c .before .before .list-block .ensures .1, there .0)
 
--- src/lib.rt:91:1
 returns-2 : tie.Need-returns-2
 returns-2 c =
     let args = c .before .before .before .before .before .before .before .before .before .before .args in
@@ -74,11 +65,9 @@ returns-2 c =
     page-refused (args .schema-bytes .now) (args .block .now) _ (read .ensures) (args .place) (args .list .now)
     (if1 .left) _ (sym (c .before .n .given .1) ∙ judge .ensures)
 
--- src/lib.rt:91:1
 same-length : tie.Need-same-length
 same-length c = c .before .before .list-block .kept .1 .1 .1 .1 .0
 
--- src/lib.rt:91:1
 returns-3 : tie.Need-returns-3
 returns-3 c =
     let args =

@@ -20,39 +20,30 @@ Inv-loop sc n storages₀ i₀ storages i = (i ≤ n) × (length storages ≡ 64
 abbrev μ-loop : tie.MeasureT-loop
 μ-loop sc n storages₀ i₀ storages i = n - i
 
--- src/lib.rt:23:5
 loop-holds : tie.Need-loop-holds Inv-loop μ-loop
 loop-holds c = (omega arith, length-replicate {A = Storage} 64 Boolean, refl)
 
--- src/lib.rt:24:17
 mul-c : tie.Need-mul-c Inv-loop μ-loop
 mul-c c = search needs
 
--- src/lib.rt:24:17
 element-copy-out-c : tie.Need-element-copy-out-c Inv-loop μ-loop
 element-copy-out-c c = search needs
 
--- src/lib.rt:26:23
 storage-of-requires : tie.Need-storage-of-requires Inv-loop μ-loop
 storage-of-requires c κs = search needs
 
--- src/lib.rt:26:9
 mul-storages : tie.Need-mul-storages Inv-loop μ-loop
 mul-storages c = search needs
 
--- src/lib.rt:26:9
 array-set-from-storages : tie.Need-array-set-from-storages Inv-loop μ-loop
 array-set-from-storages c = search needs
 
--- src/lib.rt:27:9
 add-i : tie.Need-add-i Inv-loop μ-loop
 add-i c = search needs
 
--- src/lib.rt:23:5
 loop-less : tie.Need-loop-less Inv-loop μ-loop
 loop-less c = search needs
 
--- src/lib.rt:23:5
 loop-again : tie.Need-loop-again Inv-loop μ-loop
 loop-again c =
     let args = c .before .before .before .before .args in
@@ -63,7 +54,6 @@ loop-again c =
           (loop .inv .2) (c .storage-of .ensures),
     )
 
--- src/lib.rt:16:1
 returns : tie.Need-returns Inv-loop μ-loop
 returns c =
     let loop = c .before .loop in

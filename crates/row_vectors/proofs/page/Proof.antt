@@ -7,23 +7,18 @@ use borrow.Author.Needs.{needs}
 use Rattle.row_vectors.proofs.page.Statement.{statement}
 use Rattle.row_vectors.proofs.page.Tie as tie
 
--- src/main.rt:24:9
 lent-requires : tie.Need-lent-requires
 lent-requires c κs = search needs
 
--- src/main.rt:25:37
 array-borrow-prefix-list : tie.Need-array-borrow-prefix-list
 array-borrow-prefix-list c = search needs
 
--- src/main.rt:25:37
 slice-aggregate-list-page : tie.Need-slice-aggregate-list-page
 slice-aggregate-list-page c = sym (length-take-le (c .before .lent .result) _ (omega (arith, c .before .lent .ensures)))
 
--- src/main.rt:25:5
 list-page-requires : tie.Need-list-page-requires
 list-page-requires c κs = search needs
 
--- src/main.rt:22:1
 returns : tie.Need-returns
 returns c = search needs
 

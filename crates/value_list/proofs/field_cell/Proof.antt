@@ -10,11 +10,9 @@ use borrow.Author.Needs.{needs}
 use Rattle.value_list.proofs.field_cell.Statement.{statement}
 use Rattle.value_list.proofs.field_cell.Tie as tie
 
--- src/lib.rt:182:9
 cell-of-requires : tie.Need-cell-of-requires
 cell-of-requires c κs = search needs
 
--- src/lib.rt:182:9
 returns : tie.Need-returns
 unfolding listed
 returns c =
@@ -23,11 +21,9 @@ returns c =
     (read-holds _ Null (args .at) (ap numbersIn (c .cell-of .ensures))
     (ap (λ (x : Cell). x .next) (c .cell-of .ensures)))
 
--- src/lib.rt:184:5
 cell-at-requires : tie.Need-cell-at-requires
 cell-at-requires c κs = search needs
 
--- src/lib.rt:178:1
 returns-2 : tie.Need-returns-2
 returns-2 c = rw (c .before .if1 .left) (c .cell-at .ensures)
 

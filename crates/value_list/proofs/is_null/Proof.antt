@@ -4,15 +4,12 @@ use borrow.Author.Needs.{needs}
 use Rattle.value_list.proofs.is_null.Statement.{statement}
 use Rattle.value_list.proofs.is_null.Tie as tie
 
--- src/lib.rt:172:16
 bit-at-requires : tie.Need-bit-at-requires
 bit-at-requires c κs = search needs
 
--- src/lib.rt:172:9
 returns : tie.Need-returns
 returns c = rw (c .before .if1 .taken, ← c .bit-at .ensures .0)
 
--- src/lib.rt:168:1
 returns-2 : tie.Need-returns-2
 returns-2 c = search needs
 

@@ -15,15 +15,12 @@ Inv-loop s run n from list₀ k storages at₀ m₀ list at m = (m ≤ n) × (le
 abbrev μ-loop : tie.MeasureT-loop
 μ-loop s run n from list₀ k storages at₀ m₀ list at m = n - m
 
--- src/lib.rt:222:5
 loop-holds : tie.Need-loop-holds Inv-loop μ-loop
 loop-holds c = (omega arith, refl, upto-none _ _ _ _ _ _ _)
 
--- src/lib.rt:223:27
 which-requires : tie.Need-which-requires Inv-loop μ-loop
 which-requires c κs = search needs
 
--- src/lib.rt:223:18
 mul-st : tie.Need-mul-st Inv-loop μ-loop
 mul-st c =
     let args = c .before .before .before .before .before .args in
@@ -31,7 +28,6 @@ mul-st c =
     let there = storage-there (args .run .same) (c .before .before .loop .m) (args .n) (pre .0) (c .before .loop-test .taken) in
     omega (arith, c .which .ensures)
 
--- src/lib.rt:223:18
 array-copy-out-st : tie.Need-array-copy-out-st Inv-loop μ-loop
 array-copy-out-st c =
     let args = c .before .before .before .before .before .args in
@@ -39,39 +35,30 @@ array-copy-out-st c =
     rw (c .which .ensures)
     (storage-there (args .run .same) (c .before .before .loop .m) (args .n) (pre .0) (c .before .loop-test .taken))
 
--- src/lib.rt:224:54
 add-is-null : tie.Need-add-is-null Inv-loop μ-loop
 add-is-null c = search needs
 
--- src/lib.rt:224:13
 is-null-requires : tie.Need-is-null-requires Inv-loop μ-loop
 is-null-requires c κs = search needs
 
--- src/lib.rt:225:13
 field-cell-requires : tie.Need-field-cell-requires Inv-loop μ-loop
 field-cell-requires c κs = search needs
 
--- src/lib.rt:226:28
 mul-put-cell : tie.Need-mul-put-cell Inv-loop μ-loop
 mul-put-cell c = search needs
 
--- src/lib.rt:226:24
 add-put-cell : tie.Need-add-put-cell Inv-loop μ-loop
 add-put-cell c = search needs
 
--- src/lib.rt:226:9
 put-cell-requires : tie.Need-put-cell-requires Inv-loop μ-loop
 put-cell-requires c κs = search needs
 
--- src/lib.rt:228:9
 add-m : tie.Need-add-m Inv-loop μ-loop
 add-m c = search needs
 
--- src/lib.rt:222:5
 loop-less : tie.Need-loop-less Inv-loop μ-loop
 loop-less c = search needs
 
--- src/lib.rt:222:5
 loop-again : tie.Need-loop-again Inv-loop μ-loop
 loop-again c =
     let loop = c .before .before .before .before .before .before .before .before .before .before .loop in
@@ -86,11 +73,9 @@ loop-again c =
           (loop .inv .2) (rw (← which .ensures, ← is-null .ensures) (field-cell .ensures)) (put-cell .ensures),
     )
 
--- src/lib.rt:208:1
 same-length : tie.Need-same-length Inv-loop μ-loop
 same-length c = c .before .loop .inv .1
 
--- src/lib.rt:208:1
 returns : tie.Need-returns Inv-loop μ-loop
 returns c =
     let args = c .before .before .before .before .args in

@@ -6,45 +6,35 @@ use borrow.Author.Needs.{needs}
 use Rattle.value_list.proofs.nanos_cell.Statement.{statement}
 use Rattle.value_list.proofs.nanos_cell.Tie as tie
 
--- src/lib.rt:119:29
 enum-told : tie.Need-enum-told
 enum-told c = search needs
 
--- src/lib.rt:119:29
 cell-of-requires : tie.Need-cell-of-requires
 cell-of-requires c κs = search needs
 
--- src/lib.rt:120:30
 enum-told-2 : tie.Need-enum-told-2
 enum-told-2 c = search needs
 
--- src/lib.rt:120:30
 cell-of-requires-2 : tie.Need-cell-of-requires-2
 cell-of-requires-2 c κs = search needs
 
--- src/lib.rt:121:24
 enum-known-r : tie.Need-enum-known-r
 enum-known-r c = search needs
 
--- src/lib.rt:121:57
 cast-cell-of : tie.Need-cast-cell-of
 cast-cell-of c = search needs
 
--- src/lib.rt:121:39
 cell-of-requires-3 : tie.Need-cell-of-requires-3
 cell-of-requires-3 c κs = search needs
 
--- src/lib.rt:115:1
 returns : tie.Need-returns
 unfolding nanosOf
 returns c = rw (c .before .enum-told .given .1) (cut-holds _)
 
--- src/lib.rt:115:1
 returns-2 : tie.Need-returns-2
 unfolding nanosOf
 returns-2 c = rw (c .before .enum-told2 .given .1) (bad-holds _)
 
--- src/lib.rt:115:1
 returns-3 : tie.Need-returns-3
 returns-3 c =
     let args = c .before .before .before .before .args in

@@ -10,39 +10,30 @@ use borrow.Author.Needs.{needs}
 use Rattle.value_list.proofs.place_cell.Statement.{statement}
 use Rattle.value_list.proofs.place_cell.Tie as tie
 
--- src/lib.rt:89:29
 enum-told : tie.Need-enum-told
 enum-told c = search needs
 
--- src/lib.rt:89:29
 cell-of-requires : tie.Need-cell-of-requires
 cell-of-requires c κs = search needs
 
--- src/lib.rt:90:30
 enum-told-2 : tie.Need-enum-told-2
 enum-told-2 c = search needs
 
--- src/lib.rt:90:30
 cell-of-requires-2 : tie.Need-cell-of-requires-2
 cell-of-requires-2 c κs = search needs
 
--- src/lib.rt:91:24
 enum-known-r : tie.Need-enum-known-r
 enum-known-r c = search needs
 
--- src/lib.rt:92:23
 cast-len : tie.Need-cast-len
 cast-len c = search needs
 
--- src/lib.rt:93:16
 has-requires : tie.Need-has-requires
 has-requires c κs = search needs
 
--- src/lib.rt:94:48
 cast-cell-of : tie.Need-cast-cell-of
 cast-cell-of c = search needs
 
--- src/lib.rt:94:58
 add-cell-of : tie.Need-add-cell-of
 add-cell-of c =
     let args = c .before .before .before .before .before .before .args in
@@ -53,32 +44,26 @@ add-cell-of c =
           (sym (c .before .has .ensures) ∙ c .if1 .taken),
     )
 
--- src/lib.rt:94:17
 cell-of-requires-3 : tie.Need-cell-of-requires-3
 cell-of-requires-3 c κs = search needs
 
--- src/lib.rt:94:17
 returns : tie.Need-returns
 returns c =
     let args = c .before .before .before .before .before .before .before .args in
     let r = c .before .before .before .before .r in
     λ least. rw (r .given .1) (place-holds (args .s .now) least _ _ _ _ (λ e. c .cell-of3 .ensures))
 
--- src/lib.rt:96:13
 cell-of-requires-4 : tie.Need-cell-of-requires-4
 cell-of-requires-4 c κs = search needs
 
--- src/lib.rt:85:1
 returns-2 : tie.Need-returns-2
 unfolding sizedOf
 returns-2 c = λ least. rw (c .before .enum-told .given .1) (cut-holds _)
 
--- src/lib.rt:85:1
 returns-3 : tie.Need-returns-3
 unfolding sizedOf
 returns-3 c = λ least. rw (c .before .enum-told2 .given .1) (bad-holds _)
 
--- src/lib.rt:85:1
 returns-4 : tie.Need-returns-4
 returns-4 c =
     let args = c .before .before .before .before .before .before .before .args in

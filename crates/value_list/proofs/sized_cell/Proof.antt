@@ -6,27 +6,21 @@ use borrow.Author.Needs.{needs}
 use Rattle.value_list.proofs.sized_cell.Statement.{statement}
 use Rattle.value_list.proofs.sized_cell.Tie as tie
 
--- src/lib.rt:106:22
 shared-slice-read-wide : tie.Need-shared-slice-read-wide
 shared-slice-read-wide c = search needs
 
--- src/lib.rt:106:13
 wide-requires : tie.Need-wide-requires
 wide-requires c κs = search needs
 
--- src/lib.rt:108:49
 cast-t9 : tie.Need-cast-t9
 cast-t9 c = search needs
 
--- src/lib.rt:108:59
 add-t10 : tie.Need-add-t10
 add-t10 c = search needs
 
--- src/lib.rt:108:13
 place-cell-requires : tie.Need-place-cell-requires
 place-cell-requires c κs = search needs
 
--- src/lib.rt:108:13
 returns : tie.Need-returns
 returns c =
     let args = c .before .before .before .before .before .before .args in
@@ -36,15 +30,12 @@ returns c =
     rw (one-group (args .s .now) (args .at) (if1 .taken) (omega (arith, wide .ensures .0)), ← wide .ensures .0)
     (c .place-cell .ensures least)
 
--- src/lib.rt:111:19
 varint-requires : tie.Need-varint-requires
 varint-requires c κs = search needs
 
--- src/lib.rt:111:5
 place-cell-requires-2 : tie.Need-place-cell-requires-2
 place-cell-requires-2 c κs = search needs
 
--- src/lib.rt:102:1
 returns-2 : tie.Need-returns-2
 returns-2 c = λ least. rw (← c .before .varint .ensures) (c .place-cell2 .ensures least)
 

@@ -10,17 +10,14 @@ use borrow.Author.Needs.{needs}
 use Rattle.value_list.proofs.time_fixed_cell.Statement.{statement}
 use Rattle.value_list.proofs.time_fixed_cell.Tie as tie
 
--- src/lib.rt:139:8
 has-requires : tie.Need-has-requires
 has-requires c κs = search needs
 
--- src/lib.rt:140:30
 add-word : tie.Need-add-word
 add-word c =
     let args = c .before .before .before .args in
     omega (arith, leb-true (args .at + 12) (length (args .s .now)) (sym (c .before .has .ensures) ∙ c .if1 .taken))
 
--- src/lib.rt:140:17
 word-requires : tie.Need-word-requires
 word-requires c κs =
     let args = c .before .before .before .args in (
@@ -28,11 +25,9 @@ word-requires c κs =
       search needs,
     )
 
--- src/lib.rt:140:17
 cast-n : tie.Need-cast-n
 cast-n c = search needs
 
--- src/lib.rt:141:27
 word-requires-2 : tie.Need-word-requires-2
 word-requires-2 c κs =
     let args = c .before .before .before .before .args in (
@@ -44,18 +39,15 @@ word-requires-2 c κs =
       search needs,
     )
 
--- src/lib.rt:141:66
 add-t7 : tie.Need-add-t7
 add-t7 c =
     let args = c .before .before .before .before .before .args in
     let has = c .before .before .before .has in
     omega (arith, leb-true (args .at + 12) (length (args .s .now)) (sym (has .ensures) ∙ c .before .before .if1 .taken))
 
--- src/lib.rt:141:9
 nanos-cell-requires : tie.Need-nanos-cell-requires
 nanos-cell-requires c κs = search needs
 
--- src/lib.rt:141:9
 returns : tie.Need-returns
 unfolding storedAt
 returns c =
@@ -63,11 +55,9 @@ returns c =
     room-holds _ (args .s .now) (args .at) 12 _
     (λ e. rw (← c .before .word2 .ensures .0, ← c .before .before .word .ensures .0) (c .nanos-cell .ensures))
 
--- src/lib.rt:143:5
 cell-of-requires : tie.Need-cell-of-requires
 cell-of-requires c κs = search needs
 
--- src/lib.rt:136:1
 returns-2 : tie.Need-returns-2
 unfolding storedAt
 returns-2 c =

@@ -10,17 +10,14 @@ use borrow.Author.Needs.{needs}
 use Rattle.value_list.proofs.time_varint_cell.Statement.{statement}
 use Rattle.value_list.proofs.time_varint_cell.Tie as tie
 
--- src/lib.rt:129:8
 has-requires : tie.Need-has-requires
 has-requires c κs = search needs
 
--- src/lib.rt:130:27
 word-requires : tie.Need-word-requires
 word-requires c κs =
     let args = c .before .before .before .args in
     (leb-true (args .at + 8) (length (args .s .now)) (sym (c .before .has .ensures) ∙ c .if1 .taken), search needs)
 
--- src/lib.rt:130:58
 add-varint : tie.Need-add-varint
 add-varint c =
     let args = c .before .before .before .before .args in
@@ -30,15 +27,12 @@ add-varint c =
           (sym (c .before .before .has .ensures) ∙ c .before .if1 .taken),
     )
 
--- src/lib.rt:130:48
 varint-requires : tie.Need-varint-requires
 varint-requires c κs = search needs
 
--- src/lib.rt:130:9
 nanos-cell-requires : tie.Need-nanos-cell-requires
 nanos-cell-requires c κs = search needs
 
--- src/lib.rt:130:9
 returns : tie.Need-returns
 unfolding storedAt
 returns c =
@@ -46,11 +40,9 @@ returns c =
     room-holds _ (args .s .now) (args .at) 8 _
     (λ e. rw (← c .before .before .word .ensures .0, ← c .before .varint .ensures) (c .nanos-cell .ensures))
 
--- src/lib.rt:132:5
 cell-of-requires : tie.Need-cell-of-requires
 cell-of-requires c κs = search needs
 
--- src/lib.rt:126:1
 returns-2 : tie.Need-returns-2
 unfolding storedAt
 returns-2 c =

@@ -12,11 +12,9 @@ use borrow.Author.Needs.{needs}
 use Rattle.value_list.proofs.whole_cell.Statement.{statement}
 use Rattle.value_list.proofs.whole_cell.Tie as tie
 
--- src/lib.rt:78:8
 has-requires : tie.Need-has-requires
 has-requires c κs = search needs
 
--- src/lib.rt:79:36
 word-requires : tie.Need-word-requires
 word-requires c κs =
     let args = c .before .before .before .args in (
@@ -24,11 +22,9 @@ word-requires c κs =
       search needs,
     )
 
--- src/lib.rt:79:27
 extended-requires : tie.Need-extended-requires
 extended-requires c κs = search needs
 
--- src/lib.rt:79:67
 add-cell-of : tie.Need-add-cell-of
 add-cell-of c =
     let args = c .before .before .before .before .before .args in
@@ -38,11 +34,9 @@ add-cell-of c =
       leb-true (args .at + args .w) (length (args .s .now)) (sym (has .ensures) ∙ c .before .before .if1 .taken),
     )
 
--- src/lib.rt:79:9
 cell-of-requires : tie.Need-cell-of-requires
 cell-of-requires c κs = search needs
 
--- src/lib.rt:79:9
 returns : tie.Need-returns
 returns c =
     let args = c .before .before .before .before .before .before .args in
@@ -51,11 +45,9 @@ returns c =
     (c .before .extended .ensures ∙ ap (λ (n : ℕ). unsigned (signedOf (args .half) n))
     (c .before .before .word .ensures .0))
 
--- src/lib.rt:81:5
 cell-of-requires-2 : tie.Need-cell-of-requires-2
 cell-of-requires-2 c κs = search needs
 
--- src/lib.rt:74:1
 returns-2 : tie.Need-returns-2
 returns-2 c = λ e. not-there (c .before .before .has .ensures) (c .before .if1 .left) e
 

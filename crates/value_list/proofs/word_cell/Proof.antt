@@ -10,11 +10,9 @@ use borrow.Author.Needs.{needs}
 use Rattle.value_list.proofs.word_cell.Statement.{statement}
 use Rattle.value_list.proofs.word_cell.Tie as tie
 
--- src/lib.rt:56:8
 has-requires : tie.Need-has-requires
 has-requires c κs = search needs
 
--- src/lib.rt:57:30
 word-requires : tie.Need-word-requires
 word-requires c κs =
     let args = c .before .before .before .args in (
@@ -22,7 +20,6 @@ word-requires c κs =
       search needs,
     )
 
--- src/lib.rt:57:54
 add-cell-of : tie.Need-add-cell-of
 add-cell-of c =
     let args = c .before .before .before .before .args in
@@ -32,11 +29,9 @@ add-cell-of c =
           (sym (c .before .before .has .ensures) ∙ c .before .if1 .taken),
     )
 
--- src/lib.rt:57:9
 cell-of-requires : tie.Need-cell-of-requires
 cell-of-requires c κs = search needs
 
--- src/lib.rt:57:9
 returns : tie.Need-returns
 returns c =
     let args = c .before .before .before .before .before .args in
@@ -46,11 +41,9 @@ returns c =
       rw (← word .ensures .0) (word .ensures .1),
     )
 
--- src/lib.rt:59:5
 cell-of-requires-2 : tie.Need-cell-of-requires-2
 cell-of-requires-2 c κs = search needs
 
--- src/lib.rt:52:1
 returns-2 : tie.Need-returns-2
 returns-2 c = λ e. not-there (c .before .before .has .ensures) (c .before .if1 .left) e
 

@@ -11,47 +11,36 @@ Inv-loop list i₀ t3 t4 i = i ≤ length list
 abbrev μ-loop : tie.MeasureT-loop
 μ-loop list i₀ t3 t4 i = length list - i
 
--- src/lib.rt:65:5
 loop-holds : tie.Need-loop-holds Inv-loop μ-loop
 loop-holds c = search needs
 
--- src/lib.rt:66:34
 slice-aggregate-print-after : tie.Need-slice-aggregate-print-after Inv-loop μ-loop
 slice-aggregate-print-after c = search needs
 
--- src/lib.rt:66:40
 mul-print-after : tie.Need-mul-print-after Inv-loop μ-loop
 mul-print-after c = search needs
 
--- src/lib.rt:66:40
 shared-slice-read-print-after : tie.Need-shared-slice-read-print-after Inv-loop μ-loop
 shared-slice-read-print-after c = search needs
 
--- src/lib.rt:66:9
 print-after-requires : tie.Need-print-after-requires Inv-loop μ-loop
 print-after-requires c κs = search needs
 
--- src/lib.rt:67:9
 add-i : tie.Need-add-i Inv-loop μ-loop
 add-i c = search needs
 
--- src/lib.rt:65:5
 loop-less : tie.Need-loop-less Inv-loop μ-loop
 loop-less c = search needs
 
--- src/lib.rt:65:5
 loop-again : tie.Need-loop-again Inv-loop μ-loop
 loop-again c = search needs
 
--- src/lib.rt:69:24
 slice-aggregate-print : tie.Need-slice-aggregate-print Inv-loop μ-loop
 slice-aggregate-print c = search needs
 
--- src/lib.rt:69:5
 print-requires : tie.Need-print-requires Inv-loop μ-loop
 print-requires c κs = search needs
 
--- src/lib.rt:63:1
 returns : tie.Need-returns Inv-loop μ-loop
 returns c = search needs
 
