@@ -85,6 +85,16 @@ module _ (cols : List Column) (n : ℕ) (s : List ℕ) (b : Judged) (i : ℕ) wh
   unfolding mapped tagOf
   has-mapped e h = rw (e, ne-eqb (tagAt cols n s b i) 3 h)
 
+  -- the test of a row, where the column is not ALL_NULL
+  pub null-true : (r : ℕ) → both mappedAt (eqb (lowBit s (nullsAt cols n s b i) r) 1) ≡ true → NullAt cols n s b i r
+  null-true r e =
+      let bit = lowBit s (nullsAt cols n s b i) r in
+      inr (mapped-has (both-left mappedAt (eqb bit 1) e), eqb-true bit 1 (both-right mappedAt (eqb bit 1) e))
+
+  pub null-false : (r : ℕ) → (tagAt cols n s b i ≡ 3 → ⊥)
+      → both mappedAt (eqb (lowBit s (nullsAt cols n s b i) r) 1) ≡ false → NullAt cols n s b i r → ⊥
+  null-false r h e w = ⊎-elim h (λ v. clash (cc (rw (has-mapped (v .0) h, v .1) at e))) w
+
   pub counts : Counts cols n s b i
   counts =
       record {

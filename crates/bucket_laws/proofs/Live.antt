@@ -7,7 +7,9 @@ use Prim.Native.Nat.{ℕ, zero, suc, _+_, _-_, _≤_, _<_}
 use native.Mathlib.Omega.{arith}
 use borrow.Author.Tests.{eqb-true, eqb-false}
 use lib.Dec.{eqb}
+use Rattle.common.specs.Outcome.{pick, both}
 use Rattle.common.specs.Bytes.{lowBit, lowCount}
+use Rattle.common.proofs.Outcomes.{clash}
 use Rattle.common.proofs.LowBits.{bit-small, count-le}
 use Rattle.bucket_spec.specs.Piece.{live}
 
@@ -20,6 +22,11 @@ module _ (s : List ℕ) (p : ℕ) where
   unfolding live
   live-none true = omega arith
   live-none false = refl
+
+  pub live-le : (mapped : Bool) (k : ℕ) → live s mapped p k ≤ k
+  unfolding live
+  live-le true k = omega arith
+  live-le false k = omega arith
 
   -- a row that is not null is one more
   pub live-next : (mapped : Bool) (k : ℕ) → (mapped ≡ true → lowBit s p k ≡ 1 → ⊥)
@@ -37,6 +44,17 @@ module _ (s : List ℕ) (p : ℕ) where
   pub live-same : (k : ℕ) → lowBit s p k ≡ 1 → live s true p (suc k) ≡ live s true p k
   unfolding live
   live-same k h = omega (arith, count-next k, count-le s p k)
+
+  -- as a test
+  pub live-turn : (mapped : Bool) (k : ℕ)
+      → live s mapped p (suc k) ≡ pick (both mapped (eqb (lowBit s p k) 1)) (live s mapped p k) (suc (live s mapped p k))
+  live-turn true k = by-test (eqb (lowBit s p k) 1) refl
+    where
+      by-test : (t : Bool) → eqb (lowBit s p k) 1 ≡ t
+          → live s true p (suc k) ≡ pick t (live s true p k) (suc (live s true p k))
+      by-test true e = live-same k (eqb-true (lowBit s p k) 1 e)
+      by-test false e = live-next true k (λ m. eqb-false (lowBit s p k) 1 e)
+  live-turn false k = live-next false k (λ m. clash (cc))
 
   live-step : (mapped : Bool) (k : ℕ) → live s mapped p k ≤ live s mapped p (suc k)
   unfolding live

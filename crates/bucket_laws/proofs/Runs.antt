@@ -1,12 +1,12 @@
 -- Value j of a run that was read to its end is there: the values before it end at its place, and it is read there.
 -- Assumes nothing.
-use mathlib.Core.Path.{_≡_, refl, _∙_}
+use mathlib.Core.Path.{_≡_, refl, sym, ap, _∙_}
 use mathlib.Core.Bool.{true}
 use mathlib.Core.List.{List}
 use Prim.Native.Nat.{ℕ, zero, suc, _<_}
 use native.Mathlib.Nat.{not-suc-le-zero, le-of-suc-le-suc}
 use Rattle.common.specs.Outcome.{refused, found, then}
-use Rattle.common.proofs.Outcomes.{clash}
+use Rattle.common.proofs.Outcomes.{clash, same-found, then-found}
 use Rattle.row_spec.specs.Value.{valueAt, onValue}
 use Rattle.row_spec.specs.declared.ColumnType.{ColumnType}
 use Rattle.row_spec.specs.declared.Field.{Field}
@@ -69,3 +69,35 @@ module _ (s : List ℕ) (t : ColumnType) where
   pub run-nth : (m j at : ℕ) (f : Field) → Among s t at m j f → nth s t at j ≡ found f
   unfolding nth hereOf
   run-nth m j at f a = rw (a .before, a .reads)
+
+  -- one value more, where those before it end
+  values-more : (j at p : ℕ) (f : Field) (next : ℕ) → values s t j at ≡ found p → valueAt true s p t ≡ Read f next
+      → values s t (suc j) at ≡ found next
+  values-more zero at p f next e r =
+      let here : at ≡ p = same-found (sym (values-none at) ∙ e) in
+      rw here (values-one 0 p f next r ∙ values-none next)
+  values-more (suc j) at p f next e r =
+      let x = values-read j at p e in
+      values-one (suc j) at (x .0) (x .1 .0) (x .1 .1 .0) ∙ values-more j (x .1 .0) p f next (x .1 .1 .1) r
+
+  -- A value that is answered stands where those before it end, and ends where with it one more ends.
+  pub record Stands (at j : ℕ) (f : Field) : Type 0 where
+    pub place : ℕ
+    pub next : ℕ
+    pub before : values s t j at ≡ found place
+    pub reads : valueAt true s place t ≡ Read f next
+    pub more : values s t (suc j) at ≡ found next
+
+  pub nth-stands : (at j : ℕ) (f : Field) → nth s t at j ≡ found f → Stands at j f
+  unfolding nth hereOf
+  nth-stands at j f e =
+      let x = then-found (values s t j at) (hereOf s t) f e in
+      by-value (x .0) (x .1 .0) (valueAt true s (x .0) t) refl (x .1 .1)
+    where
+      by-value : (p : ℕ) → values s t j at ≡ found p → (v : Value) → valueAt true s p t ≡ v
+          → onValue v (refused 31) (refused 32) (λ g next. found g) ≡ found f → Stands at j f
+      by-value p b CutShort r q = clash (cc)
+      by-value p b Bad r q = clash (cc)
+      by-value p b (Read g next) r q =
+          let reads : valueAt true s p t ≡ Read f next = r ∙ ap (λ (h : Field). Read h next) (same-found q) in
+          record { place = p; next = next; before = b; reads = reads; more = values-more j at p f next b reads }
