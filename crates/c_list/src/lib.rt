@@ -48,9 +48,9 @@ pub fn bucket_page(
     let at = *place;
     match bucket_list::page(schema, rows, bucket, column, at, list) {
         PageAnswer::Refused(n) => n,
-        PageAnswer::Page { given: g, rows: _ } => {
-            *place = at + g;
-            *given = g;
+        PageAnswer::Page { given: k, rows: _ } => {
+            *place = at + k;
+            *given = k;
             0
         }
     }

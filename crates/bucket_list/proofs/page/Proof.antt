@@ -16,39 +16,30 @@ use Rattle.bucket_list.proofs.list_page.Reads as list-page-reads
 use Rattle.bucket_parts.proofs.judge.Reads as judge-reads
 use Rattle.schema.proofs.read.Reads as read-reads
 
--- src/lib.rt:72:9
 read-requires : tie.Need-read-requires
 read-requires c κs = search needs
 
--- src/lib.rt:75:9
 returns : tie.Need-returns
 returns c = page-unread (c .before .before .before .before .before .args .schema-bytes .now) (c .before .before .before .before .before .args .rows) (c .before .before .before .before .before .args .bucket .now) (c .before .before .before .before .before .args .column) (c .before .before .before .before .before .args .place) (c .before .before .before .before .before .args .list .now) _ (c .before .read .ensures) (c .if1 .taken)
 
--- src/lib.rt:78:9
 judge-requires : tie.Need-judge-requires
 judge-requires c κs = let k = read-found _ _ (c .before .before .read .ensures) (c .before .if1 .left) in (k .most, k .room)
 
--- src/lib.rt:80:9
 returns-2 : tie.Need-returns-2
 returns-2 c = page-bad (c .before .before .before .before .before .before .before .before .before .args .schema-bytes .now) (c .before .before .before .before .before .before .before .before .before .args .rows) (c .before .before .before .before .before .before .before .before .before .args .bucket .now) (c .before .before .before .before .before .before .before .before .before .args .column) (c .before .before .before .before .before .before .before .before .before .args .place) (c .before .before .before .before .before .before .before .before .before .args .list .now) _ (c .before .before .before .before .before .read .ensures) (c .before .before .before .before .if1 .left) (c .before .before .judge .result) (c .before .before .judge .ensures) (not-true _ (c .if2 .taken))
 
--- src/lib.rt:83:9
 returns-3 : tie.Need-returns-3
 returns-3 c = page-absent (c .before .before .before .before .before .before .before .before .before .before .before .args .schema-bytes .now) (c .before .before .before .before .before .before .before .before .before .before .before .args .rows) (c .before .before .before .before .before .before .before .before .before .before .before .args .bucket .now) (c .before .before .before .before .before .before .before .before .before .before .before .args .column) (c .before .before .before .before .before .before .before .before .before .before .before .args .place) (c .before .before .before .before .before .before .before .before .before .before .before .args .list .now) _ (c .before .before .before .before .before .before .before .read .ensures) (c .before .before .before .before .before .before .if1 .left) (c .before .before .before .before .judge .result) (c .before .before .before .before .judge .ensures) (not-false _ (c .before .before .if2 .left)) (c .if3 .taken)
 
--- src/lib.rt:85:9
 list-page-requires : tie.Need-list-page-requires
 list-page-requires c κs = let k = read-found _ _ (c .before .before .before .before .before .before .before .before .read .ensures) (c .before .before .before .before .before .before .before .if1 .left) in let good = not-false _ (c .before .before .before .if2 .left) in (k .most, k .room, c .before .before .before .before .before .judge .ensures .few good, ap (λ (f : Frame). f .has) (c .before .before .before .before .before .judge .ensures .framed good), c .before .if3 .left)
 
--- src/lib.rt:95:16
 cast-t18 : tie.Need-cast-t18
 cast-t18 c = search needs
 
--- src/lib.rt:62:1
 same-length : tie.Need-same-length
 same-length c = search needs
 
--- src/lib.rt:62:1
 returns-4 : tie.Need-returns-4
 returns-4 c = page-given (c .before .before .before .before .before .before .before .before .before .before .before .before .before .before .before .args .schema-bytes .now) (c .before .before .before .before .before .before .before .before .before .before .before .before .before .before .before .args .rows) (c .before .before .before .before .before .before .before .before .before .before .before .before .before .before .before .args .bucket .now) (c .before .before .before .before .before .before .before .before .before .before .before .before .before .before .before .args .column) (c .before .before .before .before .before .before .before .before .before .before .before .before .before .before .before .args .place) (c .before .before .before .before .before .before .before .before .before .before .before .before .before .before .before .args .list .now) _ (c .before .before .before .before .before .before .before .before .before .before .before .read .ensures) (c .before .before .before .before .before .before .before .before .before .before .if1 .left) (c .before .before .before .before .before .before .before .before .judge .result) (c .before .before .before .before .before .before .before .before .judge .ensures) (not-false _ (c .before .before .before .before .before .before .if2 .left)) (c .before .before .list-page .result) _ (c .before .before .before .before .if3 .left) (c .before .before .list-page .ensures)
 

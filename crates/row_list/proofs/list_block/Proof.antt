@@ -62,8 +62,8 @@ list-rows-requires c κs =
     let rows-given = c .before .before .before .before .rows-given in (
       pre .1,
       pre .2,
-      given-fits (rows-given .result) (length (args .list .now)) (3 * args .sc .count) (args .rows - args .place)
-          (rows-given .ensures),
+      given-fits (rows-given .result) (length (args .list .now)) (3 * args .sc .count)
+          (args .rows - args .place) (rows-given .ensures),
     )
 
 same-length : tie.Need-same-length
@@ -77,13 +77,10 @@ returns-2 c =
     let little-endian = c .before .before .before .before .before .little-endian in
     let many = length-take-le (args .sc .count) (args .sc .columns) (omega arith) in (
       block-some (args .s .now) (columnsOf (args .sc)) (args .rows) (args .place) (length (args .list .now))
-          (rows-given .result) (args .list .now) (rw many (rows-given .ensures)) _ _ (if1 .left)
-          (little-endian .ensures .0) (c .before .before .list-rows .ensures),
-      omega (
-        arith,
-        rows-given .ensures,
-        min-le-right (length (args .list .now) / (3 * args .sc .count)) (args .rows - args .place),
-      ),
+          (rows-given .result) (args .list .now) (rw many (rows-given .ensures)) _ _ (if1 .left) (little-endian .ensures .0)
+          (c .before .before .list-rows .ensures),
+      omega
+          (arith, rows-given .ensures, min-le-right (length (args .list .now) / (3 * args .sc .count)) (args .rows - args .place)),
     )
 
 pub list-block-spec : {M : Type 1} → statement M

@@ -33,8 +33,7 @@ list-row-requires c κs =
     let storages-of = c .before .before .before .storages-of in
     let loop = c .before .before .loop in
     let room = row-room (loop .r) (args .given) (3 * args .sc .count) (length (args .list .now))
-    (c .before .loop-test .taken)
-    (pre .2) in
+    (c .before .loop-test .taken) (pre .2) in
     (omega arith, storages-of .ensures .1, omega (arith, loop .inv .1, loop .inv .2, room))
 
 mul-k : tie.Need-mul-k Inv-loop μ-loop
@@ -46,7 +45,8 @@ add-k c =
     let pre = c .before .before .before .before .before .before .before .before .before .pre in
     let loop = c .before .before .before .before .before .loop in
     let loop-test = c .before .before .before .before .loop-test in
-    let room = row-room (loop .r) (args .given) (3 * args .sc .count) (length (args .list .now)) (loop-test .taken) (pre .2) in
+    let room = row-room (loop .r) (args .given) (3 * args .sc .count) (length (args .list .now)) (loop-test .taken)
+    (pre .2) in
     omega (arith, loop .inv .2, room)
 
 add-r : tie.Need-add-r Inv-loop μ-loop
@@ -56,32 +56,21 @@ loop-less : tie.Need-loop-less Inv-loop μ-loop
 loop-less c = omega arith
 
 loop-again : tie.Need-loop-again Inv-loop μ-loop
-loop-again c = (
-  omega arith,
-  c .before .before .list-row .kept .1 .1 .1 .1 .0 ∙ c .before .before .before .before .before .loop .inv .1,
-  row-step (c .before .before .before .before .before .loop .r)
-      (3 * c .before .before .before .before .before .before .before .before .before .args .sc .count)
-      (c .before .before .before .before .before .loop .k)
-      (c .before .before .before .before .before .loop .inv .2),
-  λ cols stored.
-      let many = columns-many
-      (c .before .before .before .before .before .before .before .before .before .args .s .now)
-      (c .before .before .before .before .before .before .storages-of .result)
-      (c .before .before .before .before .before .before .before .before .before .args .sc .count)
-      (c .before .before .before .before .before .loop .at)
-      (c .before .before .before .before .before .before .storages-of .ensures .1) cols stored in rw (← many)
-      (upto-more (c .before .before .before .before .before .before .before .before .before .args .s .now)
-      cols (c .before .before .before .before .before .before .before .before .before .args .from)
-      (c .before .before .before .before .before .before .before .before .before .args .given)
-      (c .before .before .before .before .before .before .before .before .before .args .list .now)
-      (c .before .before .before .before .before .loop .r)
-      (c .before .before .before .before .before .loop .at)
-      (c .before .before .before .before .before .loop .k) _
-      (c .before .before .before .before .before .loop .list) _ _
-      (c .before .before .before .before .loop-test .taken)
-      (c .before .before .before .before .before .loop .inv .3 cols stored) stored
-      (c .before .before .list-row .ensures)),
-)
+loop-again c =
+    let args = c .before .before .before .before .before .before .before .before .before .args in
+    let made = c .before .before .before .before .before .before .storages-of in
+    let loop = c .before .before .before .before .before .loop in
+    let turn = c .before .before .before .before .loop-test .taken in
+    let row = c .before .before .list-row in
+    let enough = made .ensures .1 in (
+      omega arith,
+      row .kept .1 .1 .1 .1 .0 ∙ loop .inv .1,
+      row-step (loop .r) (3 * args .sc .count) (loop .k)
+          (loop .inv .2),
+      λ cols stored. let many = columns-many (args .s .now) (made .result) (args .sc .count) (loop .at)
+          enough cols stored in let upto = loop .inv .3 cols stored in rw (← many)
+          (upto-more (args .s .now) cols (args .from) (args .given) (args .list .now) (loop .r) (loop .at) (loop .k) _ (loop .list) _ _ turn upto stored (row .ensures)),
+    )
 
 same-length : tie.Need-same-length Inv-loop μ-loop
 same-length c = c .before .loop .inv .1
@@ -91,8 +80,8 @@ returns c =
     let args = c .before .before .before .before .before .args in
     let loop = c .before .loop in
     let all : loop .r ≡ args .given = omega arith in
-    upto-all _ _ _ _ _ _ _ _
-    (rw all at (loop .inv .3 (columnsOf (args .sc)) (c .before .before .storages-of .ensures .0)))
+    upto-all _ _ _ _ _ _ _ _ (rw all at
+    (loop .inv .3 (columnsOf (args .sc)) (c .before .before .storages-of .ensures .0)))
 
 pub list-rows-spec : {M : Type 1} → statement M
 list-rows-spec =

@@ -40,20 +40,20 @@ list-block-requires c κs =
     let judge = c .before .before .before .before .judge in
     let k = read-found (args .schema-bytes .now) _ (read .ensures) (if1 .left) in
     let there = rows-there (args .schema-bytes .now) (args .block .now) _ (read .ensures) (args .place)
-    (args .list .now)
-    (if1 .left) _ _ (sym (c .before .before .n2 .given .1) ∙ judge .ensures) in
+    (args .list .now) (if1 .left) _ _ (sym (c .before .before .n2 .given .1) ∙ judge .ensures) in
     (k .some, k .most, k .room, there .0, there .1)
 
 cast-t18 : tie.Need-cast-t18
 cast-t18 c =
     let args =
-    c .before .before .before .before .before .before .before .before .before .before .before .before .before .before .args in
+    c .before .before .before .before .before .before .before .before .before .before .before .before .before .before .args
+    in
     let read = c .before .before .before .before .before .before .before .before .before .before .read in
     let if1 = c .before .before .before .before .before .before .before .before .before .if1 in
     let judge = c .before .before .before .before .before .before .before .judge in
     let n2 = c .before .before .before .before .before .n2 in
-    let there = rows-there (args .schema-bytes .now) (args .block .now) _ (read .ensures) (args .place) (args .list .now)
-    (if1 .left) _ _ (sym (n2 .given .1) ∙ judge .ensures) in
+    let there = rows-there (args .schema-bytes .now) (args .block .now) _ (read .ensures) (args .place)
+    (args .list .now) (if1 .left) _ _ (sym (n2 .given .1) ∙ judge .ensures) in
     omega (arith, c .before .before .list-block .ensures .1, there .0)
 
 returns-2 : tie.Need-returns-2
@@ -71,7 +71,8 @@ same-length c = c .before .before .list-block .kept .1 .1 .1 .1 .0
 returns-3 : tie.Need-returns-3
 returns-3 c =
     let args =
-    c .before .before .before .before .before .before .before .before .before .before .before .before .before .before .args in
+    c .before .before .before .before .before .before .before .before .before .before .before .before .before .before .args
+    in
     let read = c .before .before .before .before .before .before .before .before .before .before .read in
     let if1 = c .before .before .before .before .before .before .before .before .before .if1 in
     let judge = c .before .before .before .before .before .before .before .judge in

@@ -50,8 +50,8 @@ loop-again c =
     let loop = c .before .before .before .loop in (
       omega arith,
       length-set (loop .storages) (loop .i) _ ∙ loop .inv .1,
-      mapped-next rowStorage (loop .storages) (args .t1 .columns) (loop .i) _ blankColumn (omega arith) (omega arith)
-          (loop .inv .2) (c .storage-of .ensures),
+      mapped-next rowStorage (loop .storages)
+          (args .t1 .columns) (loop .i) _ blankColumn (omega arith) (omega arith) (loop .inv .2) (c .storage-of .ensures),
     )
 
 returns : tie.Need-returns Inv-loop μ-loop

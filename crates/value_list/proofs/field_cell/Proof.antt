@@ -17,8 +17,7 @@ returns : tie.Need-returns
 unfolding listed
 returns c =
     let args = c .before .before .before .args in
-    rw (c .before .if1 .taken)
-    (read-holds _ Null (args .at) (ap numbersIn (c .cell-of .ensures))
+    rw (c .before .if1 .taken) (read-holds _ Null (args .at) (ap numbersIn (c .cell-of .ensures))
     (ap (λ (x : Cell). x .next) (c .cell-of .ensures)))
 
 cell-at-requires : tie.Need-cell-at-requires

@@ -25,15 +25,16 @@ mul-st : tie.Need-mul-st Inv-loop μ-loop
 mul-st c =
     let args = c .before .before .before .before .before .args in
     let pre = c .before .before .before .before .before .pre in
-    let there = storage-there (args .run .same) (c .before .before .loop .m) (args .n) (pre .0) (c .before .loop-test .taken) in
+    let there = storage-there (args .run .same) (c .before .before .loop .m) (args .n) (pre .0)
+    (c .before .loop-test .taken) in
     omega (arith, c .which .ensures)
 
 array-copy-out-st : tie.Need-array-copy-out-st Inv-loop μ-loop
 array-copy-out-st c =
     let args = c .before .before .before .before .before .args in
     let pre = c .before .before .before .before .before .pre in
-    rw (c .which .ensures)
-    (storage-there (args .run .same) (c .before .before .loop .m) (args .n) (pre .0) (c .before .loop-test .taken))
+    rw (c .which .ensures) (storage-there (args .run .same) (c .before .before .loop .m) (args .n) (pre .0)
+    (c .before .loop-test .taken))
 
 add-is-null : tie.Need-add-is-null Inv-loop μ-loop
 add-is-null c = search needs
@@ -69,8 +70,9 @@ loop-again c =
     let put-cell = c .before .before .put-cell in (
       omega arith,
       put-cell .kept .0 ∙ loop .inv .1,
-      upto-more _ _ _ _ _ _ _ (loop .m) (loop .at) (loop .list) _ (field-cell .result) (loop-test .taken)
-          (loop .inv .2) (rw (← which .ensures, ← is-null .ensures) (field-cell .ensures)) (put-cell .ensures),
+      upto-more _ _ _ _ _ _ _ (loop .m) (loop .at) (loop .list) _
+          (field-cell .result) (loop-test .taken) (loop .inv .2)
+          (rw (← which .ensures, ← is-null .ensures) (field-cell .ensures)) (put-cell .ensures),
     )
 
 same-length : tie.Need-same-length Inv-loop μ-loop

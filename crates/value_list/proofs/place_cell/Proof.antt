@@ -68,9 +68,7 @@ returns-4 : tie.Need-returns-4
 returns-4 c =
     let args = c .before .before .before .before .before .before .before .args in
     let r = c .before .before .before .before .r in
-    λ least.
-    rw (r .given .1)
-    (place-holds (args .s .now) least _ _ _ _
+    λ least. rw (r .given .1) (place-holds (args .s .now) least _ _ _ _
     (λ e. not-there (c .before .before .has .ensures) (c .before .if1 .left) e))
 
 pub place-cell-spec : {M : Type 1} → statement M

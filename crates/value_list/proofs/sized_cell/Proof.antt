@@ -26,9 +26,11 @@ returns c =
     let args = c .before .before .before .before .before .before .args in
     let if1 = c .before .before .before .before .if1 in
     let wide = c .before .before .wide in
-    λ least.
-    rw (one-group (args .s .now) (args .at) (if1 .taken) (omega (arith, wide .ensures .0)), ← wide .ensures .0)
-    (c .place-cell .ensures least)
+    λ least. rw (
+      one-group (args .s .now) (args .at) (if1 .taken) (omega (arith, wide .ensures .0)),
+      ← wide .ensures
+          .0,
+    ) (c .place-cell .ensures least)
 
 varint-requires : tie.Need-varint-requires
 varint-requires c κs = search needs

@@ -31,11 +31,8 @@ cast-n c = search needs
 word-requires-2 : tie.Need-word-requires-2
 word-requires-2 c κs =
     let args = c .before .before .before .before .args in (
-      omega (
-        arith,
-        leb-true (args .at + 12) (length (args .s .now))
-            (sym (c .before .before .has .ensures) ∙ c .before .if1 .taken),
-      ),
+      omega
+          (arith, leb-true (args .at + 12) (length (args .s .now)) (sym (c .before .before .has .ensures) ∙ c .before .if1 .taken)),
       search needs,
     )
 
@@ -43,7 +40,11 @@ add-t7 : tie.Need-add-t7
 add-t7 c =
     let args = c .before .before .before .before .before .args in
     let has = c .before .before .before .has in
-    omega (arith, leb-true (args .at + 12) (length (args .s .now)) (sym (has .ensures) ∙ c .before .before .if1 .taken))
+    omega (
+      arith,
+      leb-true (args .at + 12) (length (args .s .now))
+          (sym (has .ensures) ∙ c .before .before .if1 .taken),
+    )
 
 nanos-cell-requires : tie.Need-nanos-cell-requires
 nanos-cell-requires c κs = search needs
@@ -52,8 +53,8 @@ returns : tie.Need-returns
 unfolding storedAt
 returns c =
     let args = c .before .before .before .before .before .before .args in
-    room-holds _ (args .s .now) (args .at) 12 _
-    (λ e. rw (← c .before .word2 .ensures .0, ← c .before .before .word .ensures .0) (c .nanos-cell .ensures))
+    room-holds _ (args .s .now) (args .at) 12 _ (λ e. rw
+    (← c .before .word2 .ensures .0, ← c .before .before .word .ensures .0) (c .nanos-cell .ensures))
 
 cell-of-requires : tie.Need-cell-of-requires
 cell-of-requires c κs = search needs

@@ -37,8 +37,8 @@ returns : tie.Need-returns
 unfolding storedAt
 returns c =
     let args = c .before .before .before .before .before .before .args in
-    room-holds _ (args .s .now) (args .at) 8 _
-    (λ e. rw (← c .before .before .word .ensures .0, ← c .before .varint .ensures) (c .nanos-cell .ensures))
+    room-holds _ (args .s .now) (args .at) 8 _ (λ e. rw
+    (← c .before .before .word .ensures .0, ← c .before .varint .ensures) (c .nanos-cell .ensures))
 
 cell-of-requires : tie.Need-cell-of-requires
 cell-of-requires c κs = search needs

@@ -19,7 +19,8 @@ word-requires : tie.Need-word-requires
 word-requires c κs =
     let args = c .before .before .before .args in (
       leb-true (args .at + args .w) (length (args .s .now)) (sym (c .before .has .ensures) ∙ c .if1 .taken),
-      search needs,
+      search
+          needs,
     )
 
 extended-requires : tie.Need-extended-requires
@@ -31,7 +32,8 @@ add-cell-of c =
     let has = c .before .before .before .has in
     omega (
       arith,
-      leb-true (args .at + args .w) (length (args .s .now)) (sym (has .ensures) ∙ c .before .before .if1 .taken),
+      leb-true (args .at + args .w) (length (args .s .now))
+          (sym (has .ensures) ∙ c .before .before .if1 .taken),
     )
 
 cell-of-requires : tie.Need-cell-of-requires
@@ -40,10 +42,8 @@ cell-of-requires c κs = search needs
 returns : tie.Need-returns
 returns c =
     let args = c .before .before .before .before .before .before .args in
-    λ e.
-    c .cell-of .ensures ∙ ap (λ (n : ℕ). cellOf 2 n 0 (args .at + args .w))
-    (c .before .extended .ensures ∙ ap (λ (n : ℕ). unsigned (signedOf (args .half) n))
-    (c .before .before .word .ensures .0))
+    λ e. c .cell-of .ensures ∙ ap (λ (n : ℕ). cellOf 2 n 0 (args .at + args .w)) (c .before .extended .ensures ∙ ap
+    (λ (n : ℕ). unsigned (signedOf (args .half) n)) (c .before .before .word .ensures .0))
 
 cell-of-requires-2 : tie.Need-cell-of-requires-2
 cell-of-requires-2 c κs = search needs

@@ -17,7 +17,8 @@ word-requires : tie.Need-word-requires
 word-requires c κs =
     let args = c .before .before .before .args in (
       leb-true (args .at + args .w) (length (args .s .now)) (sym (c .before .has .ensures) ∙ c .if1 .taken),
-      search needs,
+      search
+          needs,
     )
 
 add-cell-of : tie.Need-add-cell-of
@@ -38,7 +39,8 @@ returns c =
     let word = c .before .word in
     λ e. (
       c .cell-of .ensures ∙ ap (λ (n : ℕ). cellOf (args .kind) n 0 (args .at + args .w)) (word .ensures .0),
-      rw (← word .ensures .0) (word .ensures .1),
+      rw
+          (← word .ensures .0) (word .ensures .1),
     )
 
 cell-of-requires-2 : tie.Need-cell-of-requires-2

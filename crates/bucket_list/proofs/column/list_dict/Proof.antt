@@ -18,35 +18,27 @@ use Rattle.bucket_piece.proofs.after_of.Reads as after-of-reads
 use Rattle.bucket_piece.proofs.entries_of.Reads as entries-of-reads
 use Rattle.numbers.proofs.varint.Reads as varint-reads
 
--- src/column.rt:101:9
 varint-requires : tie.Need-varint-requires
 varint-requires c κs = search needs
 
--- src/column.rt:102:9
 entries-of-requires : tie.Need-entries-of-requires
 entries-of-requires c κs = search needs
 
--- src/column.rt:104:15
 after-of-requires : tie.Need-after-of-requires
 after-of-requires c κs = search needs
 
--- src/column.rt:105:18
 at-most-requires : tie.Need-at-most-requires
 at-most-requires c κs = search needs
 
--- src/column.rt:106:16
 index-width-requires : tie.Need-index-width-requires
 index-width-requires c κs = search needs
 
--- src/column.rt:109:5
 list-table-requires : tie.Need-list-table-requires
 list-table-requires c κs = search needs
 
--- src/column.rt:90:1
 same-length : tie.Need-same-length
 same-length c = search needs
 
--- src/column.rt:90:1
 returns : tie.Need-returns
 returns c = λ m. rows-more _ (Entry (c .before .before .before .before .before .before .before .before .before .before .before .args .s .now) (c .before .before .before .before .before .before .before .before .before .before .before .args .t) (c .before .before .before .before .before .before .before .before .before .before .before .args .table) (c .before .before .before .before .before .before .before .before .before .before .before .args .cells) m) (c .before .before .before .before .before .before .before .before .before .before .before .args .s .now) (c .before .before .before .before .before .before .before .before .before .before .before .args .x) _ _ (λ j f x. dict-among (c .before .before .before .before .before .before .before .before .before .before .before .args .s .now) (c .before .before .before .before .before .before .before .before .before .before .before .args .t) (c .before .before .before .before .before .before .before .before .before .before .before .args .table) (c .before .before .before .before .before .before .before .before .before .before .before .args .cells) m j f (c .before .before .before .before .before .before .before .before .varint .result) (c .before .before .before .before .before .before .before .entries-of .result) (c .before .before .before .before .before .before .after-of .result) (c .before .before .before .before .before .at-most .result) (c .before .before .before .before .index-width .result) (c .before .before .before .before .before .before .before .before .varint .ensures) (c .before .before .before .before .before .before .before .entries-of .ensures) (c .before .before .before .before .before .before .after-of .ensures) (c .before .before .before .before .before .at-most .ensures .1) (c .before .before .before .before .index-width .ensures .0) x) (c .before .before .list-table .ensures)
 

@@ -22,40 +22,31 @@ Inv-loop n list₀ m₀ list m = (m ≤ n) × (length list ≡ length list₀) �
 abbrev μ-loop : tie.MeasureT-loop
 μ-loop n list₀ m₀ list m = n - m
 
--- src/column.rt:28:5
 loop-holds : tie.Need-loop-holds Inv-loop μ-loop
 loop-holds c = (omega arith, refl, upto-none _ _ _)
 
--- src/column.rt:29:36
 mul-put-cell : tie.Need-mul-put-cell Inv-loop μ-loop
 mul-put-cell c = search needs
 
--- src/column.rt:29:43
 cell-of-requires : tie.Need-cell-of-requires Inv-loop μ-loop
 cell-of-requires c κs = search needs
 
--- src/column.rt:29:9
 put-cell-requires : tie.Need-put-cell-requires Inv-loop μ-loop
 put-cell-requires c κs = search needs
 
--- src/column.rt:30:9
 add-m : tie.Need-add-m Inv-loop μ-loop
 add-m c = search needs
 
--- src/column.rt:28:5
 loop-less : tie.Need-loop-less Inv-loop μ-loop
 loop-less c = omega arith
 
--- src/column.rt:28:5
 loop-again : tie.Need-loop-again Inv-loop μ-loop
 unfolding listed
 loop-again c = (omega arith, c .before .before .put-cell .kept .0 ∙ c .before .before .before .before .before .before .loop .inv .1, upto-more _ _ _ (c .before .before .before .before .before .before .loop .m) (c .before .before .before .before .before .before .loop .list) _ (c .before .before .before .cell-of .result) (c .before .before .before .before .before .loop-test .taken) (c .before .before .before .before .before .before .loop .inv .2) (λ f e. ap numbersIn (c .before .before .before .cell-of .ensures) ∙ rw e) (c .before .before .put-cell .ensures))
 
--- src/column.rt:23:1
 same-length : tie.Need-same-length Inv-loop μ-loop
 same-length c = c .before .loop .inv .1
 
--- src/column.rt:23:1
 returns : tie.Need-returns Inv-loop μ-loop
 returns c = let all : c .before .loop .m ≡ c .before .before .before .args .n = omega arith in upto-all _ _ _ _ (rw all at (c .before .loop .inv .2))
 

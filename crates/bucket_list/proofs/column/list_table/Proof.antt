@@ -14,23 +14,18 @@ use Rattle.bucket_list.proofs.column.list_table.Lts as lts
 use Rattle.bucket_list.proofs.column.list_values.Reads as list-values-reads
 use Rattle.bucket_list.proofs.entries.list_entries.Reads as list-entries-reads
 
--- src/column.rt:75:37
 slice-aggregate-list-values : tie.Need-slice-aggregate-list-values
 slice-aggregate-list-values c = search needs
 
--- src/column.rt:75:5
 list-values-requires : tie.Need-list-values-requires
 list-values-requires c κs = search needs
 
--- src/column.rt:76:5
 list-entries-requires : tie.Need-list-entries-requires
 list-entries-requires c κs = search needs
 
--- src/column.rt:64:1
 same-length : tie.Need-same-length
 same-length c = search needs
 
--- src/column.rt:64:1
 returns : tie.Need-returns
 returns c = rows-more _ (AmongEntries (c .before .before .before .before .before .before .before .before .before .before .args .s .now) (c .before .before .before .before .before .before .before .before .before .before .args .t) (c .before .before .before .before .before .before .before .before .before .before .args .e)) (c .before .before .before .before .before .before .before .before .before .before .args .s .now) (c .before .before .before .before .before .before .before .before .before .before .args .x) _ _ (λ j f a. entry-listed (c .before .before .before .before .before .before .before .before .before .before .args .s .now) (c .before .before .before .before .before .before .before .before .before .before .args .t) (c .before .before .before .before .before .before .before .before .before .before .args .e .from) (c .before .before .before .before .before .before .before .before .before .before .args .e .entries) _ f _ _ (c .before .before .before .before .before .before .list-values .ensures) a) (c .before .before .list-entries .ensures)
 

@@ -16,27 +16,21 @@ use Rattle.bucket_piece.proofs.live_rows.Reads as live-rows-reads
 use Rattle.value_list.proofs.list_run.Reads as list-run-reads
 use Rattle.values.proofs.storage_of.Reads as storage-of-reads
 
--- src/column.rt:50:9
 live-rows-requires : tie.Need-live-rows-requires
 live-rows-requires c κs = search needs
 
--- src/column.rt:51:9
 place-after-requires : tie.Need-place-after-requires
 place-after-requires c κs = search needs
 
--- src/column.rt:59:9
 storage-of-requires : tie.Need-storage-of-requires
 storage-of-requires c κs = search needs
 
--- src/column.rt:60:5
 list-run-requires : tie.Need-list-run-requires
 list-run-requires c κs = (λ e. clash (cc), omega (arith, c .before .before .before .before .before .before .pre .0), omega (arith, c .before .before .before .before .before .before .pre .1))
 
--- src/column.rt:46:1
 same-length : tie.Need-same-length
 same-length c = search needs
 
--- src/column.rt:46:1
 returns : tie.Need-returns
 returns c = values-listed (c .before .before .before .before .before .before .before .before .before .args .s .now) (c .before .before .before .before .before .before .before .before .before .args .t) (c .before .before .before .before .before .before .before .before .before .args .at) (c .before .before .before .before .before .before .before .before .before .args .x) _ (c .before .before .before .before .storage-of .ensures) _ _ _ _ _ (rw (add-zero (c .before .before .before .before .before .before .before .before .before .args .x .place), ← c .before .before .before .before .before .before .live-rows .ensures .0) (c .before .before .before .before .before .place-after .ensures)) refl (c .before .before .list-run .ensures)
 

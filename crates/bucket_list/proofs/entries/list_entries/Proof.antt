@@ -27,63 +27,48 @@ Inv-loop s table w cells x list₀ j₀ m₀ list j m = (m ≤ x .given) × (len
 abbrev μ-loop : tie.MeasureT-loop
 μ-loop s table w cells x list₀ j₀ m₀ list j m = x .given - m
 
--- src/entries.rt:63:9
 live-rows-requires : tie.Need-live-rows-requires Inv-loop μ-loop
 live-rows-requires c κs = omega (arith, c .before .before .pre .1)
 
--- src/entries.rt:65:5
 loop-holds : tie.Need-loop-holds Inv-loop μ-loop
 loop-holds c = (omega arith, refl, rw (add-zero (c .before .before .before .args .x .place)) (c .live-rows .ensures .0), upto-none _ _ _)
 
--- src/entries.rt:66:62
 add-is-null : tie.Need-add-is-null Inv-loop μ-loop
 add-is-null c = omega (arith, c .before .before .before .before .before .before .before .pre .1, c .before .if1 .taken)
 
--- src/entries.rt:66:13
 is-null-requires : tie.Need-is-null-requires Inv-loop μ-loop
 is-null-requires c κs = tt
 
--- src/entries.rt:67:36
 mul-index-at : tie.Need-mul-index-at Inv-loop μ-loop
 mul-index-at c = let few : c .before .before .before .before .loop .j ≤ 65536 = omega (arith, live-le (c .before .before .before .before .before .before .before .before .args .s .now) (c .before .before .before .before .before .before .before .before .args .x .nulls) (c .before .before .before .before .before .before .before .before .args .x .mapped) (c .before .before .before .before .before .before .before .before .args .x .place + c .before .before .before .before .loop .m)) in omega (arith, prod 65536 8 {m = c .before .before .before .before .loop .j} {n = c .before .before .before .before .before .before .before .before .args .w} few (c .before .before .before .before .before .before .before .before .pre .0))
 
--- src/entries.rt:67:13
 index-at-requires : tie.Need-index-at-requires Inv-loop μ-loop
 index-at-requires c κs = let few : c .before .before .before .before .loop .j ≤ 65536 = omega (arith, live-le (c .before .before .before .before .before .before .before .before .args .s .now) (c .before .before .before .before .before .before .before .before .args .x .nulls) (c .before .before .before .before .before .before .before .before .args .x .mapped) (c .before .before .before .before .before .before .before .before .args .x .place + c .before .before .before .before .loop .m)) in (c .before .before .before .before .before .before .before .before .pre .0, omega (arith, prod 65536 8 {m = c .before .before .before .before .loop .j} {n = c .before .before .before .before .before .before .before .before .args .w} few (c .before .before .before .before .before .before .before .before .pre .0)))
 
--- src/entries.rt:68:24
 mul-put-cell : tie.Need-mul-put-cell Inv-loop μ-loop
 mul-put-cell c = omega (arith, c .before .before .before .before .before .before .before .before .before .before .pre .2, c .before .before .before .before .if1 .taken)
 
--- src/entries.rt:68:31
 entry-cell-requires : tie.Need-entry-cell-requires Inv-loop μ-loop
 entry-cell-requires c κs = c .before .index-at .ensures .1
 
--- src/entries.rt:68:9
 put-cell-requires : tie.Need-put-cell-requires Inv-loop μ-loop
 put-cell-requires c κs = omega (arith, c .before .before .before .before .before .before .before .before .before .before .before .pre .2, c .before .before .before .before .before .if1 .taken)
 
--- src/entries.rt:69:9
 next-index-requires : tie.Need-next-index-requires Inv-loop μ-loop
 next-index-requires c κs = omega (arith, live-le (c .before .before .before .before .before .before .before .before .before .before .before .before .before .before .args .s .now) (c .before .before .before .before .before .before .before .before .before .before .before .before .before .before .args .x .nulls) (c .before .before .before .before .before .before .before .before .before .before .before .before .before .before .args .x .mapped) (c .before .before .before .before .before .before .before .before .before .before .before .before .before .before .args .x .place + c .before .before .before .before .before .before .before .before .before .before .loop .m))
 
--- src/entries.rt:70:9
 add-m : tie.Need-add-m Inv-loop μ-loop
 add-m c = omega (arith, c .before .before .before .before .before .before .before .before .before .before .before .before .before .before .before .pre .1, c .before .before .before .before .before .before .before .before .before .if1 .taken)
 
--- src/entries.rt:65:5
 loop-less : tie.Need-loop-less Inv-loop μ-loop
 loop-less c = omega arith
 
--- src/entries.rt:65:5
 loop-again : tie.Need-loop-again Inv-loop μ-loop
 loop-again c = (omega arith, c .before .before .before .put-cell .kept .0 ∙ c .before .before .before .before .before .before .before .before .before .before .before .loop .inv .1, index-next (c .before .before .before .before .before .before .before .before .before .before .before .before .before .before .before .args .s .now) (c .before .before .before .before .before .before .before .before .before .before .before .before .before .before .before .args .table .now) (c .before .before .before .before .before .before .before .before .before .before .before .before .before .before .before .args .w) (c .before .before .before .before .before .before .before .before .before .before .before .before .before .before .before .args .cells) (c .before .before .before .before .before .before .before .before .before .before .before .before .before .before .before .args .x) (c .before .before .before .before .before .before .before .before .before .before .before .loop .m) (c .before .before .before .before .before .before .before .before .before .before .before .loop .j) (c .before .before .before .before .before .before .before .is-null .result) (c .before .before .before .before .before .before .before .before .before .before .before .loop .inv .2) (c .before .before .before .before .before .before .before .is-null .ensures) (c .next-index .result) (c .next-index .ensures), upto-more _ _ _ (c .before .before .before .before .before .before .before .before .before .before .before .loop .m) (c .before .before .before .before .before .before .before .before .before .before .before .loop .list) _ (c .before .before .before .before .entry-cell .result) (c .before .before .before .before .before .before .before .before .before .if1 .taken) (c .before .before .before .before .before .before .before .before .before .before .before .loop .inv .3) (row-listed (c .before .before .before .before .before .before .before .before .before .before .before .before .before .before .before .args .s .now) (c .before .before .before .before .before .before .before .before .before .before .before .before .before .before .before .args .table .now) (c .before .before .before .before .before .before .before .before .before .before .before .before .before .before .before .args .w) (c .before .before .before .before .before .before .before .before .before .before .before .before .before .before .before .args .cells) (c .before .before .before .before .before .before .before .before .before .before .before .before .before .before .before .args .x) (c .before .before .before .before .before .before .before .before .before .before .before .loop .m) (c .before .before .before .before .before .before .before .before .before .before .before .loop .j) (c .before .before .before .before .before .before .before .is-null .result) (c .before .before .before .before .before .before .before .before .before .before .before .loop .inv .2) (c .before .before .before .before .before .before .before .is-null .ensures) (c .before .before .before .before .before .before .index-at .result) (c .before .before .before .before .entry-cell .result) (c .before .before .before .before .before .before .index-at .ensures .0) (c .before .before .before .before .entry-cell .ensures)) (c .before .before .before .put-cell .ensures))
 
--- src/entries.rt:52:1
 same-length : tie.Need-same-length Inv-loop μ-loop
 same-length c = c .before .before .loop .inv .1
 
--- src/entries.rt:52:1
 returns : tie.Need-returns Inv-loop μ-loop
 returns c = let all : c .before .before .loop .m ≡ c .before .before .before .before .before .before .args .x .given = omega arith in upto-all _ _ _ _ (rw all at (c .before .before .loop .inv .3))
 

@@ -9,15 +9,12 @@ use Rattle.bucket_list.proofs.entries.next_index.Tie as tie
 use Rattle.bucket_list.proofs.entries.next_index.Reads as reads
 use Rattle.bucket_list.proofs.entries.next_index.Lts as lts
 
--- src/entries.rt:46:9
 returns : tie.Need-returns
 returns c = search needs
 
--- src/entries.rt:48:5
 add-result : tie.Need-add-result
 add-result c = search needs
 
--- src/entries.rt:41:1
 returns-2 : tie.Need-returns-2
 returns-2 c = rw (c .if1 .left)
 
