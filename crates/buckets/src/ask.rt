@@ -24,10 +24,7 @@ fn is_null(s: &[u8], tag: u32, mapped: bool, nulls: usize, r: usize) -> bool
     if tag == 3 {
         return true;
     }
-    if mapped {
-        return numbers::bit_at(s, nulls, r) == 1;
-    }
-    false
+    value_list::is_null(s, mapped, nulls, r)
 }
 
 // Null, or the value of row r.
