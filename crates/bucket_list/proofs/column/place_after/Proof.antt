@@ -1,36 +1,26 @@
 -- Where the values end; 0 if they are refused. Assumes nothing.
 use Rattle.bucket_spec.specs.Read.{nextOutcome}
-use Rattle.bucket_list.specs.Listed.{endOf}
-use mathlib.Core.Path.{_≡_, refl, sym, ap, _∙_}
-use Prim.Native.Nat.{ℕ, zero, suc, _+_, _-_, _*_, _≤_, _<_}
-use native.Mathlib.Omega.{arith}
-use lib.ListN.{length, getD}
+use mathlib.Core.Path.{sym, ap, _∙_}
 use borrow.Author.Needs.{needs}
 use Rattle.bucket_list.proofs.column.place_after.Statement.{statement}
 use Rattle.bucket_list.proofs.column.place_after.Tie as tie
-use Rattle.bucket_list.proofs.column.place_after.Reads as reads
-use Rattle.bucket_list.proofs.column.place_after.Lts as lts
-use Rattle.bucket_piece.proofs.values_end.Reads as values-end-reads
 
--- src/column.rt:39:11
 values-end-requires : tie.Need-values-end-requires
 values-end-requires c κs = search needs
 
--- src/column.rt:40:29
 enum-told : tie.Need-enum-told
 enum-told c = search needs
 
--- src/column.rt:41:18
 enum-known-p : tie.Need-enum-known-p
 enum-known-p c = search needs
 
--- src/column.rt:35:1
 returns : tie.Need-returns
 returns c = rw (sym (c .before .before .values-end .ensures) ∙ ap nextOutcome (c .enum-told .given .1))
 
--- src/column.rt:35:1
 returns-2 : tie.Need-returns-2
-returns-2 c = rw (sym (c .before .before .before .values-end .ensures) ∙ ap nextOutcome (c .before .p .given .1))
+returns-2 c =
+    let values-end = c .before .before .before .values-end in
+    rw (sym (values-end .ensures) ∙ ap nextOutcome (c .before .p .given .1))
 
 pub place-after-spec : {M : Type 1} → statement M
 place-after-spec =

@@ -1,23 +1,14 @@
 -- A null row keeps the number, any other makes it one more. Assumes nothing.
-use mathlib.Core.Path.{_≡_, refl, sym, ap, _∙_}
-use Prim.Native.Nat.{ℕ, zero, suc, _+_, _-_, _*_, _≤_, _<_}
-use native.Mathlib.Omega.{arith}
-use lib.ListN.{length, getD}
 use borrow.Author.Needs.{needs}
 use Rattle.bucket_list.proofs.entries.next_index.Statement.{statement}
 use Rattle.bucket_list.proofs.entries.next_index.Tie as tie
-use Rattle.bucket_list.proofs.entries.next_index.Reads as reads
-use Rattle.bucket_list.proofs.entries.next_index.Lts as lts
 
--- src/entries.rt:46:9
 returns : tie.Need-returns
 returns c = search needs
 
--- src/entries.rt:48:5
 add-result : tie.Need-add-result
 add-result c = search needs
 
--- src/entries.rt:41:1
 returns-2 : tie.Need-returns-2
 returns-2 c = rw (c .if1 .left)
 
