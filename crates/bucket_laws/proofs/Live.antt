@@ -47,7 +47,8 @@ module _ (s : List ℕ) (p : ℕ) where
 
   -- as a test
   pub live-turn : (mapped : Bool) (k : ℕ)
-      → live s mapped p (suc k) ≡ pick (both mapped (eqb (lowBit s p k) 1)) (live s mapped p k) (suc (live s mapped p k))
+      → live s mapped p (suc k)
+      ≡ pick (both mapped (eqb (lowBit s p k) 1)) (live s mapped p k) (suc (live s mapped p k))
   live-turn true k = by-test (eqb (lowBit s p k) 1) refl
     where
       by-test : (t : Bool) → eqb (lowBit s p k) 1 ≡ t

@@ -1,10 +1,10 @@
 -- A column whose rows are listed by its tag lists the fields that an accepted bucket shows there.
 -- Assumes nothing.
-use mathlib.Core.Path.{_≡_, refl, sym, ap, _∙_}
+use mathlib.Core.Path.{_≡_, refl}
 use mathlib.Core.Bool.{Bool, not}
 use mathlib.Core.Logic.{inl}
 use mathlib.Core.List.{List}
-use Prim.Native.Nat.{ℕ, zero, suc, _+_, _*_, _≤_, _<_}
+use Prim.Native.Nat.{ℕ, zero, suc, _+_, _*_, _<_}
 use native.Mathlib.Omega.{arith}
 use lib.ListN.{length, getD}
 use lib.Seq.{getD-take, length-take-le}
@@ -25,7 +25,7 @@ use Rattle.bucket_laws.proofs.Answered.{null-true, null-false}
 use Rattle.bucket_laws.proofs.Runs.{run-nth}
 use Rattle.bucket_list.specs.declared.Pieces.{Pieces}
 use Rattle.bucket_list.specs.declared.Rows.{Rows}
-use Rattle.bucket_list.specs.Listed.{Lists, RowIs, RowsListed, ValueIs, ColumnListed, judgedOf}
+use Rattle.bucket_list.specs.Listed.{Lists, RowIs, RowsListed, ValueIs, ColumnListed, ColumnThere, judgedOf}
 use Rattle.bucket_list.proofs.Lists.{lists-more}
 
 module _ (cols : List Column) (n : ℕ) (s : List ℕ) (b : Judged) (i : ℕ) where
@@ -74,32 +74,36 @@ module _ (cols : List Column) (n : ℕ) (s : List ℕ) (b : Judged) (i : ℕ) wh
         by-tag (suc zero) e l =
             tagged (λ j f. ConstAt cols n s b i f) (λ q. omega arith) (λ r f x w. x .const w e) (lists .const e)
         by-tag (suc (suc zero)) e l =
-            tagged (Entry s (columnAt cols n s b i .ty) (tableAt cols n s b i) (cellsAt cols n s b i) (liveBefore cols n s b i n))
-            (λ q. omega arith) (λ r f x w. x .dict w e) (lists .dict e (liveBefore cols n s b i n))
+            let live = liveBefore cols n s b i n in
+            tagged (Entry s (columnAt cols n s b i .ty) (tableAt cols n s b i) (cellsAt cols n s b i) live)
+            (λ q. omega arith) (λ r f x w. x .dict w e) (lists .dict e live)
         by-tag (suc (suc (suc zero))) e l =
             lists-more (λ m f. f ≡ Null) k before (ShowsFrom p) after (λ m f less x. x .null (inl e)) (lists .nulls e)
         by-tag (suc (suc (suc (suc tag)))) e l = absurd (omega arith)
 
--- as the code holds the column
-pub rows-shown : (sc : Schema) (n : ℕ) (s : List ℕ) (b : BucketRead) (i p k tag : ℕ) (has : Bool) (before after : List ℕ)
-    → sc .count ≤ length (sc .columns) → i < sc .count → tag ≡ lowBits s (b .frame .tags) (2 * i) 2
-    → b .frame .has ≡ b .frame .tags + ceil8 (2 * sc .count)
+-- ---- as the code holds the column
+pub columns-many : (sc : Schema) (b : BucketRead) (i : ℕ) → ColumnThere sc b i → length (columnsOf sc) ≡ sc .count
+columns-many sc b i there = length-take-le (sc .count) (sc .columns) (omega (arith, there .most, there .columns))
+
+pub rows-shown : (sc : Schema) (n : ℕ) (s : List ℕ) (b : BucketRead) (i p k tag : ℕ) (has : Bool)
+    (before after : List ℕ) → ColumnThere sc b i → tag ≡ lowBits s (b .frame .tags) (2 * i) 2
     → has ≡ both (eqb (lowBit s (b .frame .has) i) 1) (not (eqb tag 3))
     → ColumnListed s (getD (sc .columns) i blankColumn .ty)
     (record { tag = tag; start = getD (b .consts) i 0; table = getD (b .tables) i 0; cells = getD (b .cells) i 0 })
     (record { mapped = has; nulls = getD (b .nulls) i 0; place = p; given = k }) before after
     → Lists (λ m f. Shows (columnsOf sc) n s (judgedOf sc b) (p + m) i f) k before after
 unfolding mapped tagOf
-rows-shown sc n s b i p k tag has before after room there tags frame is lists =
+rows-shown sc n s b i p k tag has before after there tags is lists =
+    let less = there .there in
     column-shown (columnsOf sc) n s (judgedOf sc b) i p k before after
     (rw (
-      getD-take (sc .count) (sc .columns) i blankColumn there,
-      getD-take (sc .count) (b .consts) i 0 there,
-      getD-take (sc .count) (b .tables) i 0 there,
-      getD-take (sc .count) (b .nulls) i 0 there,
-      getD-take (sc .count) (b .cells) i 0 there,
-      length-take-le (sc .count) (sc .columns) room,
-      ← frame,
+      getD-take (sc .count) (sc .columns) i blankColumn less,
+      getD-take (sc .count) (b .consts) i 0 less,
+      getD-take (sc .count) (b .tables) i 0 less,
+      getD-take (sc .count) (b .nulls) i 0 less,
+      getD-take (sc .count) (b .cells) i 0 less,
+      columns-many sc b i there,
+      ← there .framed,
       ← tags,
       ← is,
     )

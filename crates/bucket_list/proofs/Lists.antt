@@ -3,7 +3,7 @@
 -- Assumes nothing.
 use mathlib.Core.Path.{_≡_, refl, sym, ap, _∙_}
 use mathlib.Core.List.{List, [], _∷_, flatMap}
-use Prim.Native.Nat.{ℕ, suc, _+_, _*_, _<_}
+use Prim.Native.Nat.{ℕ, _+_, _*_, _<_}
 use native.Mathlib.Omega.{arith}
 use native.Mathlib.Numerals.{add-one}
 use lib.ListN.{length, getD, take}
@@ -42,7 +42,8 @@ module _ (P : ℕ → Field → Type 0) (n : ℕ) (before : List ℕ) where
   pub upto-all : (list : List ℕ) → Upto n list → Lists P n before list
   upto-all list upto =
       record {
-        says = λ fs len is. upto .says fs len is ∙ ap (λ (l : List Field). written l before) (take-all n fs (omega arith));
+        says = λ fs len is.
+            upto .says fs len is ∙ ap (λ (l : List Field). written l before) (take-all n fs (omega arith));
       }
 
   -- no field

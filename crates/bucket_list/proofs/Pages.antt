@@ -3,15 +3,13 @@
 -- Assumes nothing.
 use mathlib.Core.Path.{_≡_, refl, sym, ap, _∙_}
 use mathlib.Core.Bool.{true, false}
-use mathlib.Core.List.{List, map}
-use Prim.Native.Nat.{ℕ, _+_, _-_, _*_, _/_, _≤_, _<_, min}
-use native.Mathlib.Omega.{arith}
+use mathlib.Core.List.{List}
+use Prim.Native.Nat.{ℕ, _+_, _-_, _/_, _≤_, _<_, min}
 use lib.ListN.{length, getD, take, drop, length-take, length-drop}
-use lib.Seq.{length-take-le}
 use Rattle.common.specs.Outcome.{Outcome, refused, found}
 use Rattle.common.proofs.Outcomes.{same-found}
 use Rattle.row_spec.specs.Schema.{schema, held, columnsOf}
-use Rattle.row_spec.specs.Page.{Page, pageOf, written, Paged}
+use Rattle.row_spec.specs.Page.{Page, written, Paged}
 use Rattle.row_spec.specs.declared.Column.{Column}
 use Rattle.row_spec.specs.declared.Field.{Field}
 use Rattle.row_spec.specs.declared.Field.the-variants.{Null}
@@ -21,15 +19,21 @@ use Rattle.row_spec.specs.declared.SchemaRead.{SchemaRead}
 use Rattle.row_laws.proofs.Read.{read-refused, read-found}
 use Rattle.row_laws.proofs.Pages.{taken-at}
 use Rattle.bucket_spec.specs.Bucket.{Judged, bucket}
-use Rattle.bucket_spec.specs.Page.{column, alone, bucketPage}
+use Rattle.bucket_spec.specs.Page.{column, bucketPage}
 use Rattle.bucket_spec.specs.declared.BucketRead.{BucketRead}
 use Rattle.bucket_parts.specs.Told.{Judgement}
 use Rattle.bucket_laws.specs.Shown.{Shows}
 use Rattle.bucket_laws.proofs.Answered.{replied}
 use Rattle.bucket_laws.proofs.Pages.{column-answers, column-page, bucket-page, absent-column}
-use Rattle.bucket_list.specs.Listed.{Lists, judgedOf, PageListed}
+use Rattle.bucket_list.specs.Listed.{Lists, ColumnThere, judgedOf, PageListed}
+use Rattle.bucket_list.proofs.Columns.{columns-many}
 
 -- ---- the rows of a page
+taken-many : (fs : List Field) (n p room given : ℕ) → length fs ≡ n → given ≡ min (room / 3) (n - p)
+    → length (take (room / 3) (drop p fs)) ≡ given
+taken-many fs n p room given many gives =
+    length-take (room / 3) (drop p fs) ∙ rw (length-drop p fs, many) (sym gives)
+
 module _ (cols : List Column) (n : ℕ) (s : List ℕ) (b : Judged) (i : ℕ) (accepted : bucket cols n s ≡ found b)
     (there : i < length cols) (fs : List Field) (is : column cols n s i b ≡ found fs) where
   -- each field of the column is shown
@@ -39,7 +43,8 @@ module _ (cols : List Column) (n : ℕ) (s : List ℕ) (b : Judged) (i : ℕ) (a
       let same : x .0 ≡ fs = same-found (sym (x .1 .0) ∙ is) in (
         sym (ap length same) ∙ x .1 .1 .0,
         λ r less. let a = replied cols n s b r i accepted less there in
-            rw (same-found (sym (a .given) ∙ x .1 .1 .1 r less) ∙ ap (λ (l : List Field). getD l r Null) same) at (a .shows),
+            let field = same-found (sym (a .given) ∙ x .1 .1 .1 r less) ∙ ap (λ (l : List Field). getD l r Null) same in
+            rw field at (a .shows),
       )
 
   rows-listed : (p room given : ℕ) (before after : List ℕ) → given ≡ min (room / 3) (n - p)
@@ -47,22 +52,21 @@ module _ (cols : List Column) (n : ℕ) (s : List ℕ) (b : Judged) (i : ℕ) (a
       → after ≡ written (take (room / 3) (drop p fs)) before
   rows-listed p room given before after gives lists =
       let x = column-shows in
-      let some = take (room / 3) (drop p fs) in
-      let many : length some ≡ given =
-      length-take (room / 3) (drop p fs) ∙ rw (length-drop p fs, x .0) (sym gives) in
-      lists .says some many (λ m less. let y = taken-at fs p (room / 3) m Null (rw many less) in
+      let many = taken-many fs n p room given (x .0) gives in
+      lists .says (take (room / 3) (drop p fs)) many (λ m less.
+      let y = taken-at fs p (room / 3) m Null (rw many less) in
       rw (y .1) (x .1 (p + m) (rw (← (x .0)) (y .0))))
 
 pub page-listed : (sc : Schema) (n : ℕ) (s : List ℕ) (b : BucketRead) (i p room given : ℕ) (before after : List ℕ)
-    → sc .count ≤ length (sc .columns) → i < sc .count → given ≡ min (room / 3) (n - p)
+    → ColumnThere sc b i → given ≡ min (room / 3) (n - p)
     → Lists (λ m f. Shows (columnsOf sc) n s (judgedOf sc b) (p + m) i f) given before after
     → PageListed sc n s b i p room given before after
-page-listed sc n s b i p room given before after long less gives lists =
-    let there : i < length (columnsOf sc) = rw (length-take-le (sc .count) (sc .columns) long) less in
+page-listed sc n s b i p room given before after there gives lists =
+    let less : i < length (columnsOf sc) = rw (columns-many sc b i there) (there .there) in
     record {
       gives = gives;
       holds = λ fs accepted is.
-          rows-listed (columnsOf sc) n s (judgedOf sc b) i accepted there fs is p room given before after gives lists;
+          rows-listed (columnsOf sc) n s (judgedOf sc b) i accepted less fs is p room given before after gives lists;
     }
 
 -- ---- answers
@@ -103,13 +107,13 @@ module _ (d : List ℕ) (n : ℕ) (s : List ℕ) (i p : ℕ) (before : List ℕ)
           let cols = columnsOf (x .schema) in
           let there : i < length cols = rw (known .count) less in
           let a = column-answers cols n s (judgedOf (x .schema) b) i accepted there in
-          let some = take (length before / 3) (drop p (a .0)) in
-          let many : length some ≡ given =
-          length-take (length before / 3) (drop p (a .0)) ∙ rw (length-drop p (a .0), a .1 .1 .0) (sym (page .gives)) in
+          let fs = a .0 in
+          let is = a .1 .0 in
+          let many = a .1 .1 .0 in
           rw (
-            bucket-page d cols n s (judgedOf (x .schema) b) i (known .is) accepted there (a .0) (a .1 .0) p (length before),
-            column-page (a .0) p (length before),
+            bucket-page d cols n s (judgedOf (x .schema) b) i (known .is) accepted there fs is p (length before),
+            column-page fs p (length before),
+            taken-many fs n p (length before) given many (page .gives),
             many,
-            a .1 .1 .0,
           )
-          (record { says = refl; holds = page .holds (a .0) accepted (a .1 .0) })
+          (record { says = refl; holds = page .holds fs accepted is })

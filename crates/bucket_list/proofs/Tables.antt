@@ -1,11 +1,10 @@
 -- A table's entries, listed one after the other, are three numbers each: an index names those of its entry.
 -- Assumes nothing.
-use mathlib.Core.Path.{_≡_, refl, sym, ap, _∙_}
+use mathlib.Core.Path.{_≡_, sym, ap, _∙_}
 use mathlib.Core.Bool.{Bool, true, false}
 use mathlib.Core.List.{List, [], _∷_, _++_}
-use Prim.Native.Nat.{ℕ, zero, suc, _+_, _-_, _*_, _≤_, _<_}
+use Prim.Native.Nat.{ℕ, suc, _+_, _*_, _≤_, _<_}
 use native.Mathlib.Nat.{zero-add}
-use native.Mathlib.Numerals.{add-one}
 use native.Mathlib.Omega.{arith}
 use lib.ListN.{length, getD, take, drop, length-append, length-drop}
 use lib.Seq.{drop-cons, drop-append-le, take-append-le}
@@ -26,9 +25,7 @@ use Rattle.bucket_laws.specs.Shown.{Among, Entry}
 use Rattle.bucket_laws.proofs.Runs.{run-value, run-nth}
 use Rattle.bucket_laws.proofs.Pages.{answers-found}
 use Rattle.bucket_list.specs.declared.Rows.{Rows}
-use Rattle.bucket_list.specs.declared.Table.{Table}
 use Rattle.bucket_list.specs.Listed.{nullAt, liveAt, RowIs, RowsListed, ValueIs, entryIn, ListedIn}
-use Rattle.bucket_list.proofs.Values.{live-more}
 
 -- three numbers of a list
 three : (l : List ℕ) (k : ℕ) → k + 3 ≤ length l
@@ -36,7 +33,13 @@ three : (l : List ℕ) (k : ℕ) → k + 3 ≤ length l
 three l k h =
     let second : k + 1 ≡ suc k = omega arith in
     let third : k + 2 ≡ suc (suc k) = omega arith in
-    rw (second, third, drop-cons l k 0 (omega arith), drop-cons l (suc k) 0 (omega arith), drop-cons l (suc (suc k)) 0 (omega arith))
+    rw (
+      second,
+      third,
+      drop-cons l k 0 (omega arith),
+      drop-cons l (suc k) 0 (omega arith),
+      drop-cons l (suc (suc k)) 0 (omega arith),
+    )
 
 -- entry k of a list of fields
 written-at : (es : List Field) (base : List ℕ) (k : ℕ) → k < length es
@@ -50,23 +53,16 @@ written-at es base k h =
     ∙ ap (take 3) (drop-append-le (3 * k) (numbersOf es) rest (omega arith))
     ∙ take-append-le 3 (drop (3 * k) (numbersOf es)) rest (omega arith) ∙ numbers-at es k h
 
--- ---- rows by their index
-module _ (s table : List ℕ) (w cells : ℕ) (x : Rows) (m j : ℕ) (null : Bool) (at : j ≡ liveAt s x m)
-    (is : null ≡ nullAt s x m) where
-  -- the cell of row m is Null, or the entry that its index names
-  pub row-listed : (k : ℕ) (c : Cell) → k ≡ lowBits s cells (j * w) w
-      → numbersIn c ≡ pick null (listed Null) (entryIn table k)
-      → (f : Field) → RowIs (ListedIn s table w cells) s x m f → numbersIn c ≡ listed f
-  row-listed k c index numbers f row = by-null null is numbers
-    where
-      by-null : (b : Bool) → b ≡ nullAt s x m → numbersIn c ≡ pick b (listed Null) (entryIn table k)
-          → numbersIn c ≡ listed f
-      by-null true e q = q ∙ ap listed (sym (row .0 (sym e)))
-      by-null false e q = q ∙ rw (index, at) (row .1 (sym e))
-
-  -- the next row's index
-  pub index-next : (r : ℕ) → r ≡ pick null j (j + 1) → r ≡ liveAt s x (m + 1)
-  index-next r e = rw (add-one m, live-more s x m null is, e, at, add-one (liveAt s x m))
+-- the cell of row m is Null, or the entry that its index names
+pub row-listed : (s table : List ℕ) (w cells : ℕ) (x : Rows) (m j k : ℕ) (null : Bool) (c : Cell) → j ≡ liveAt s x m
+    → null ≡ nullAt s x m → k ≡ lowBits s cells (j * w) w → numbersIn c ≡ pick null (listed Null) (entryIn table k)
+    → (f : Field) → RowIs (ListedIn s table w cells) s x m f → numbersIn c ≡ listed f
+row-listed s table w cells x m j k null c at is index numbers f row = by-null null is numbers
+  where
+    by-null : (b : Bool) → b ≡ nullAt s x m → numbersIn c ≡ pick b (listed Null) (entryIn table k)
+        → numbersIn c ≡ listed f
+    by-null true e q = q ∙ ap listed (sym (row .0 (sym e)))
+    by-null false e q = q ∙ rw (index, at) (row .1 (sym e))
 
 -- ---- a table
 -- no row of a table is null

@@ -1,12 +1,12 @@
 // The rows of one column, by its tag.
 ghost use mathlib.Core.Path.{_≡_};
-ghost use Prim.Native.Nat.{ℕ, _≤_, _<_, _+_, _*_};
+ghost use Prim.Native.Nat.{ℕ, _≤_, _+_, _*_};
 ghost use lib.ListN.{length};
-ghost use Rattle.common.specs.Bytes.{ceil8};
 ghost use Rattle.row_spec.specs.Schema.{columnsOf};
 ghost use Rattle.bucket_spec.specs.Piece.{values};
 ghost use Rattle.bucket_laws.specs.Shown.{Entry, Shows};
-ghost use Rattle.bucket_list.specs.Listed.{Lists, RowsListed, ValueIs, AmongEntries, ColumnListed, judgedOf, endOf};
+ghost use Rattle.bucket_list.specs.Listed.{Lists, Fit, RowsListed, endOf, ValueIs, EntryIs};
+ghost use Rattle.bucket_list.specs.Listed.{ColumnListed, ColumnThere, judgedOf};
 use crate::Pieces;
 use crate::Rows;
 use crate::Table;
@@ -43,8 +43,9 @@ fn place_after(s: &[u8], t: ColumnType, n: usize, at: usize) -> usize
 
 // Values one after the other from `at` on, one for each row of the column that is not null.
 fn list_values(s: &[u8], t: ColumnType, at: usize, x: Rows, list: &mut [u64])
-    requires { ⌜ (x .place + x .given ≤ 65536) × (3 * x .given ≤ length (now list)) ⌝ }
-    ensures { λ r. ⌜ RowsListed (ValueIs (now (s .entry)) t at) (now (s .entry)) x (now (list .entry)) (now (list .exit)) ⌝ }
+    requires { ⌜ Fit x (now list) ⌝ }
+    ensures { λ r. ⌜ RowsListed (ValueIs (now (s .entry)) t at) (now (s .entry)) x
+        (now (list .entry)) (now (list .exit)) ⌝ }
 {
     let j = bucket_piece::live_rows(s, x.mapped, x.nulls, x.place);
     let from = place_after(s, t, j, at);
@@ -61,8 +62,9 @@ fn list_values(s: &[u8], t: ColumnType, at: usize, x: Rows, list: &mut [u64])
 
 // For each row the entry of the table that its index names.
 fn list_table(s: &[u8], t: ColumnType, e: Table, x: Rows, list: &mut [u64])
-    requires { ⌜ (e .entries ≤ 255) × (e .width ≤ 8) × (x .place + x .given ≤ 65536) × (3 * x .given ≤ length (now list)) ⌝ }
-    ensures { λ r. ⌜ RowsListed (AmongEntries (now (s .entry)) t e) (now (s .entry)) x (now (list .entry)) (now (list .exit)) ⌝ }
+    requires { ⌜ (e .entries ≤ 255) × (e .width ≤ 8) × Fit x (now list) ⌝ }
+    ensures { λ r. ⌜ RowsListed (EntryIs (now (s .entry)) t e) (now (s .entry)) x
+        (now (list .entry)) (now (list .exit)) ⌝ }
 {
     let each = Rows {
         mapped: false,
@@ -75,8 +77,8 @@ fn list_table(s: &[u8], t: ColumnType, e: Table, x: Rows, list: &mut [u64])
     list_entries(s, &table, e.width, e.cells, x, list);
 }
 
-// As many entries as a table may have.
-fn at_most(e: u32) -> usize
+// How many entries are listed: no table has more than 255.
+fn few_entries(e: u32) -> usize
     ensures { λ r. ⌜ (r ≤ 255) × (e ≤ 255 → r ≡ e) ⌝ }
 {
     if e <= 255 {
@@ -87,14 +89,15 @@ fn at_most(e: u32) -> usize
 
 // DICT: the table, then the indexes of its entries' width.
 fn list_dict(s: &[u8], t: ColumnType, table: usize, cells: usize, x: Rows, list: &mut [u64])
-    requires { ⌜ (x .place + x .given ≤ 65536) × (3 * x .given ≤ length (now list)) ⌝ }
-    ensures { λ r. ⌜ ((m : ℕ) → RowsListed (Entry (now (s .entry)) t table cells m) (now (s .entry)) x (now (list .entry)) (now (list .exit))) ⌝ }
+    requires { ⌜ Fit x (now list) ⌝ }
+    ensures { λ r. ⌜ ((m : ℕ) → RowsListed (Entry (now (s .entry)) t table cells m) (now (s .entry)) x
+        (now (list .entry)) (now (list .exit))) ⌝ }
 {
     let number = numbers::varint(s, table);
     let entries = bucket_piece::entries_of(number);
     let e = Table {
         from: bucket_piece::after_of(number),
-        entries: at_most(entries),
+        entries: few_entries(entries),
         width: bucket_piece::index_width(entries),
         cells,
     };
@@ -103,7 +106,7 @@ fn list_dict(s: &[u8], t: ColumnType, table: usize, cells: usize, x: Rows, list:
 
 // The rows by the column's tag. A CONST value is a table of one entry, with indexes of no bits.
 fn list_column(s: &[u8], t: ColumnType, c: Pieces, x: Rows, list: &mut [u64])
-    requires { ⌜ (x .place + x .given ≤ 65536) × (3 * x .given ≤ length (now list)) ⌝ }
+    requires { ⌜ Fit x (now list) ⌝ }
     ensures { λ r. ⌜ ColumnListed (now (s .entry)) t c x (now (list .entry)) (now (list .exit)) ⌝ }
 {
     if c.tag == 3 {
@@ -137,8 +140,9 @@ pub(crate) fn list_rows(
     given: usize,
     list: &mut [u64],
 )
-    requires { ⌜ (sc .count ≤ 64) × (length (sc .columns) ≡ 64) × (b .frame .has ≡ b .frame .tags + ceil8 (2 * sc .count)) × (i < sc .count) × (place + given ≤ 65536) × (3 * given ≤ length (now list)) ⌝ }
-    ensures { λ r. ⌜ ((n : ℕ) → Lists (λ m f. Shows (columnsOf sc) n (now (s .entry)) (judgedOf sc b) (place + m) i f) given (now (list .entry)) (now (list .exit))) ⌝ }
+    requires { ⌜ ColumnThere sc b i × (place + given ≤ 65536) × (3 * given ≤ length (now list)) ⌝ }
+    ensures { λ r. ⌜ ((n : ℕ) → Lists (λ m f. Shows (columnsOf sc) n (now (s .entry)) (judgedOf sc b) (place + m) i f)
+        given (now (list .entry)) (now (list .exit))) ⌝ }
 {
     let c = sc.columns[i];
     let f = b.frame;

@@ -1,12 +1,11 @@
 // Rows whose values are entries of a table.
 ghost use mathlib.Core.Path.{_≡_};
 ghost use Prim.Native.Nat.{_≤_, _<_, _+_, _*_};
-ghost use lib.ListN.{length};
 ghost use Rattle.common.specs.Outcome.{pick};
 ghost use Rattle.common.specs.Bytes.{lowBits};
 ghost use Rattle.row_spec.specs.Page.{listed};
 ghost use Rattle.value_list.specs.Cell.{numbersIn};
-ghost use Rattle.bucket_list.specs.Listed.{RowsListed, entryIn, ListedIn};
+ghost use Rattle.bucket_list.specs.Listed.{Fit, RowsListed, entryIn, ListedIn};
 use crate::Rows;
 use bucket_piece::past_bits;
 use row_spec::Field;
@@ -57,8 +56,9 @@ pub(crate) fn list_entries(
     x: Rows,
     list: &mut [u64],
 )
-    requires { ⌜ (w ≤ 8) × (x .place + x .given ≤ 65536) × (3 * x .given ≤ length (now list)) ⌝ }
-    ensures { λ r. ⌜ RowsListed (ListedIn (now (s .entry)) (now (table .entry)) w cells) (now (s .entry)) x (now (list .entry)) (now (list .exit)) ⌝ }
+    requires { ⌜ (w ≤ 8) × Fit x (now list) ⌝ }
+    ensures { λ r. ⌜ RowsListed (ListedIn (now (s .entry)) (now (table .entry)) w cells) (now (s .entry)) x
+        (now (list .entry)) (now (list .exit)) ⌝ }
 {
     let mut j = bucket_piece::live_rows(s, x.mapped, x.nulls, x.place);
     let mut m = 0;

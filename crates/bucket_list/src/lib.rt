@@ -1,11 +1,9 @@
 // Buckets by pages: the schema and the bucket are judged once, then a column's rows from a place on are listed.
-ghost use mathlib.Core.Path.{_≡_};
-ghost use Prim.Native.Nat.{_≤_, _<_, _+_, _*_};
+ghost use Prim.Native.Nat.{_≤_};
 ghost use lib.ListN.{length};
-ghost use Rattle.common.specs.Bytes.{ceil8};
 ghost use Rattle.row_spec.specs.Page.{Paged};
 ghost use Rattle.bucket_spec.specs.Page.{bucketPage};
-ghost use Rattle.bucket_list.specs.Listed.{PageListed};
+ghost use Rattle.bucket_list.specs.Listed.{ColumnThere, PageListed};
 use bucket_spec::BucketRead;
 use row_spec::PageAnswer;
 use row_spec::Schema;
@@ -47,8 +45,9 @@ fn list_page(
     place: usize,
     list: &mut [u64],
 ) -> usize
-    requires { ⌜ (sc .count ≤ 64) × (length (sc .columns) ≡ 64) × (rows ≤ 65536) × (b .frame .has ≡ b .frame .tags + ceil8 (2 * sc .count)) × (i < sc .count) ⌝ }
-    ensures { λ r. ⌜ PageListed sc rows (now (s .entry)) b i place (length (now (list .entry))) r (now (list .entry)) (now (list .exit)) ⌝ }
+    requires { ⌜ ColumnThere sc b i × (rows ≤ 65536) ⌝ }
+    ensures { λ r. ⌜ PageListed sc rows (now (s .entry)) b i place (length (now (list .entry))) r
+        (now (list .entry)) (now (list .exit)) ⌝ }
 {
     let given = value_list::rows_given(rows, place, list.len() / 3);
     if given == 0 {
@@ -67,7 +66,9 @@ pub fn page(
     place: u32,
     list: &mut [u64],
 ) -> PageAnswer
-    ensures { λ r. ⌜ Paged (bucketPage (now («schema_bytes» .entry)) rows (now (bucket .entry)) column place (length (now (list .entry)))) r (now (list .entry)) (now (list .exit)) ⌝ }
+    ensures { λ r. ⌜ Paged
+        (bucketPage (now («schema_bytes» .entry)) rows (now (bucket .entry)) column place (length (now (list .entry))))
+        r (now (list .entry)) (now (list .exit)) ⌝ }
 {
     let read = schema::read(schema_bytes);
     let refused = read.refused;

@@ -1,18 +1,9 @@
 -- One case for each tag; the others are not the column's. Assumes nothing.
 use Rattle.common.specs.Bytes.{lowBits}
-use mathlib.Core.Path.{_≡_, refl, sym, ap, _∙_}
-use Prim.Native.Nat.{ℕ, zero, suc, _+_, _-_, _*_, _≤_, _<_}
 use native.Mathlib.Omega.{arith}
-use lib.ListN.{length, getD}
 use borrow.Author.Needs.{needs}
 use Rattle.bucket_list.proofs.column.list_column.Statement.{statement}
 use Rattle.bucket_list.proofs.column.list_column.Tie as tie
-use Rattle.bucket_list.proofs.column.list_column.Reads as reads
-use Rattle.bucket_list.proofs.column.list_column.Lts as lts
-use Rattle.bucket_list.proofs.column.list_dict.Reads as list-dict-reads
-use Rattle.bucket_list.proofs.column.list_nulls.Reads as list-nulls-reads
-use Rattle.bucket_list.proofs.column.list_table.Reads as list-table-reads
-use Rattle.bucket_list.proofs.column.list_values.Reads as list-values-reads
 
 list-nulls-requires : tie.Need-list-nulls-requires
 list-nulls-requires c κs = search needs
@@ -21,7 +12,14 @@ same-length : tie.Need-same-length
 same-length c = search needs
 
 returns : tie.Need-returns
-returns c = record { plain = λ e. absurd (omega (arith, c .before .before .before .before .if1 .taken)); const = λ e. absurd (omega (arith, c .before .before .before .before .if1 .taken)); dict = λ e. absurd (omega (arith, c .before .before .before .before .if1 .taken)); nulls = λ e. c .before .before .list-nulls .ensures }
+returns c =
+    let if1 = c .before .before .before .before .if1 in
+    record {
+      plain = λ e. absurd (omega (arith, if1 .taken));
+      const = λ e. absurd (omega (arith, if1 .taken));
+      dict = λ e. absurd (omega (arith, if1 .taken));
+      nulls = λ e. c .before .before .list-nulls .ensures;
+    }
 
 list-values-requires : tie.Need-list-values-requires
 list-values-requires c κs = search needs
@@ -30,7 +28,14 @@ same-length-2 : tie.Need-same-length-2
 same-length-2 c = search needs
 
 returns-2 : tie.Need-returns-2
-returns-2 c = record { plain = λ e. c .before .before .list-values .ensures; const = λ e. absurd (omega (arith, c .before .before .before .before .if2 .taken)); dict = λ e. absurd (omega (arith, c .before .before .before .before .if2 .taken)); nulls = λ e. absurd (omega (arith, c .before .before .before .before .if2 .taken)) }
+returns-2 c =
+    let if2 = c .before .before .before .before .if2 in
+    record {
+      plain = λ e. c .before .before .list-values .ensures;
+      const = λ e. absurd (omega (arith, if2 .taken));
+      dict = λ e. absurd (omega (arith, if2 .taken));
+      nulls = λ e. absurd (omega (arith, if2 .taken));
+    }
 
 list-table-requires : tie.Need-list-table-requires
 list-table-requires c κs = search needs
@@ -40,7 +45,14 @@ same-length-3 c = search needs
 
 returns-3 : tie.Need-returns-3
 unfolding lowBits
-returns-3 c = record { plain = λ e. absurd (omega (arith, c .before .before .before .before .if3 .taken)); const = λ e. c .before .before .list-table .ensures; dict = λ e. absurd (omega (arith, c .before .before .before .before .if3 .taken)); nulls = λ e. absurd (omega (arith, c .before .before .before .before .if3 .taken)) }
+returns-3 c =
+    let if3 = c .before .before .before .before .if3 in
+    record {
+      plain = λ e. absurd (omega (arith, if3 .taken));
+      const = λ e. c .before .before .list-table .ensures;
+      dict = λ e. absurd (omega (arith, if3 .taken));
+      nulls = λ e. absurd (omega (arith, if3 .taken));
+    }
 
 list-dict-requires : tie.Need-list-dict-requires
 list-dict-requires c κs = search needs
@@ -49,7 +61,16 @@ same-length-4 : tie.Need-same-length-4
 same-length-4 c = search needs
 
 returns-4 : tie.Need-returns-4
-returns-4 c = record { plain = λ e. absurd (c .before .before .before .before .before .before .if2 .left e); const = λ e. absurd (c .before .before .before .before .if3 .left e); dict = λ e. c .before .before .list-dict .ensures; nulls = λ e. absurd (c .before .before .before .before .before .before .before .before .if1 .left e) }
+returns-4 c =
+    let if1 = c .before .before .before .before .before .before .before .before .if1 in
+    let if2 = c .before .before .before .before .before .before .if2 in
+    let if3 = c .before .before .before .before .if3 in
+    record {
+      plain = λ e. absurd (if2 .left e);
+      const = λ e. absurd (if3 .left e);
+      dict = λ e. c .before .before .list-dict .ensures;
+      nulls = λ e. absurd (if1 .left e);
+    }
 
 pub list-column-spec : {M : Type 1} → statement M
 list-column-spec =

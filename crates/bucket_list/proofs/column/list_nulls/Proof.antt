@@ -1,20 +1,15 @@
 -- Null for the rows so far. Assumes nothing.
 use Rattle.row_spec.specs.Page.{listed}
-use Rattle.row_spec.specs.declared.Field.{Field}
 use Rattle.row_spec.specs.declared.Field.the-variants.{Null}
 use Rattle.value_list.specs.Cell.{numbersIn}
 use Rattle.bucket_list.proofs.Lists.{Upto, upto-none, upto-more, upto-all}
 use borrow.Author.Needs.{needs}
-use mathlib.Core.Path.{_≡_, refl, sym, ap, _∙_}
-use Prim.Native.Nat.{ℕ, zero, suc, _+_, _-_, _*_, _≤_, _<_}
+use mathlib.Core.Path.{_≡_, refl, ap, _∙_}
+use Prim.Native.Nat.{_-_, _≤_}
 use native.Mathlib.Omega.{arith}
-use lib.ListN.{length, getD}
+use lib.ListN.{length}
 use Rattle.bucket_list.proofs.column.list_nulls.Statement.{statement}
 use Rattle.bucket_list.proofs.column.list_nulls.Tie as tie
-use Rattle.bucket_list.proofs.column.list_nulls.Reads as reads
-use Rattle.bucket_list.proofs.column.list_nulls.Lts as lts
-use Rattle.value_list.proofs.cell_of.Reads as cell-of-reads
-use Rattle.value_list.proofs.put_cell.Reads as put-cell-reads
 
 abbrev Inv-loop : tie.InvT-loop
 Inv-loop n list₀ m₀ list m = (m ≤ n) × (length list ≡ length list₀) × Upto (λ k f. f ≡ Null) n list₀ m list
@@ -42,13 +37,26 @@ loop-less c = omega arith
 
 loop-again : tie.Need-loop-again Inv-loop μ-loop
 unfolding listed
-loop-again c = (omega arith, c .before .before .put-cell .kept .0 ∙ c .before .before .before .before .before .before .loop .inv .1, upto-more _ _ _ (c .before .before .before .before .before .before .loop .m) (c .before .before .before .before .before .before .loop .list) _ (c .before .before .before .cell-of .result) (c .before .before .before .before .before .loop-test .taken) (c .before .before .before .before .before .before .loop .inv .2) (λ f e. ap numbersIn (c .before .before .before .cell-of .ensures) ∙ rw e) (c .before .before .put-cell .ensures))
+loop-again c =
+    let loop = c .before .before .before .before .before .before .loop in
+    let loop-test = c .before .before .before .before .before .loop-test in
+    let cell-of = c .before .before .before .cell-of in
+    let put-cell = c .before .before .put-cell in (
+      omega arith,
+      put-cell .kept .0 ∙ loop .inv .1,
+      upto-more _ _ _ (loop .m) (loop .list) _ (cell-of .result) (loop-test .taken) (loop .inv .2)
+          (λ f e. ap numbersIn (cell-of .ensures) ∙ rw e) (put-cell .ensures),
+    )
 
 same-length : tie.Need-same-length Inv-loop μ-loop
 same-length c = c .before .loop .inv .1
 
 returns : tie.Need-returns Inv-loop μ-loop
-returns c = let all : c .before .loop .m ≡ c .before .before .before .args .n = omega arith in upto-all _ _ _ _ (rw all at (c .before .loop .inv .2))
+returns c =
+    let args = c .before .before .before .args in
+    let loop = c .before .loop in
+    let all : loop .m ≡ args .n = omega arith in
+    upto-all _ _ _ _ (rw all at (loop .inv .2))
 
 pub list-nulls-spec : {M : Type 1} → statement M
 list-nulls-spec =

@@ -1,17 +1,8 @@
 -- The column's pieces stand in the arrays where the definition has them. Assumes nothing.
 use Rattle.bucket_list.proofs.Columns.{rows-shown}
-use mathlib.Core.Path.{_≡_, refl, sym, ap, _∙_}
-use Prim.Native.Nat.{ℕ, zero, suc, _+_, _-_, _*_, _≤_, _<_}
-use native.Mathlib.Omega.{arith}
-use lib.ListN.{length, getD}
 use borrow.Author.Needs.{needs}
 use Rattle.bucket_list.proofs.column.list_rows.Statement.{statement}
 use Rattle.bucket_list.proofs.column.list_rows.Tie as tie
-use Rattle.bucket_list.proofs.column.list_rows.Reads as reads
-use Rattle.bucket_list.proofs.column.list_rows.Lts as lts
-use Rattle.bucket_list.proofs.column.list_column.Reads as list-column-reads
-use Rattle.bucket_parts.proofs.has_bitmap.Reads as has-bitmap-reads
-use Rattle.bucket_parts.proofs.tag_of.Reads as tag-of-reads
 
 mul-c : tie.Need-mul-c
 mul-c c = search needs
@@ -56,7 +47,17 @@ same-length : tie.Need-same-length
 same-length c = search needs
 
 returns : tie.Need-returns
-returns c = λ n. rows-shown (c .before .before .before .before .before .before .before .before .before .before .before .before .before .before .args .t2) n (c .before .before .before .before .before .before .before .before .before .before .before .before .before .before .args .s .now) (c .before .before .before .before .before .before .before .before .before .before .before .before .before .before .args .t3) (c .before .before .before .before .before .before .before .before .before .before .before .before .before .before .args .i) (c .before .before .before .before .before .before .before .before .before .before .before .before .before .before .args .place) (c .before .before .before .before .before .before .before .before .before .before .before .before .before .before .args .given) (c .before .before .before .before .before .before .before .before .before .tag-of .result) (c .before .before .before .before .before .has-bitmap .result) _ _ (omega (arith, c .before .before .before .before .before .before .before .before .before .before .before .before .before .before .pre .0, c .before .before .before .before .before .before .before .before .before .before .before .before .before .before .pre .1)) (c .before .before .before .before .before .before .before .before .before .before .before .before .before .before .pre .3) (c .before .before .before .before .before .before .before .before .before .tag-of .ensures) (c .before .before .before .before .before .before .before .before .before .before .before .before .before .before .pre .2) (c .before .before .before .before .before .has-bitmap .ensures) (c .before .before .list-column .ensures)
+returns c =
+    let with-bitmap = c .before .before .before .before .before in
+    let with-tag = with-bitmap .before .before .before .before in
+    let start = with-tag .before .before .before .before .before in
+    let args = start .args in
+    let tag-of = with-tag .tag-of in
+    let has-bitmap = with-bitmap .has-bitmap in
+    λ n.
+    rows-shown (args .t2) n (args .s .now) (args .t3) (args .i) (args .place) (args .given) (tag-of .result)
+    (has-bitmap .result) _ _ (start .pre .0) (tag-of .ensures) (has-bitmap .ensures)
+    (c .before .before .list-column .ensures)
 
 pub list-rows-spec : {M : Type 1} → statement M
 list-rows-spec =

@@ -1,16 +1,9 @@
 -- Where the values end; 0 if they are refused. Assumes nothing.
 use Rattle.bucket_spec.specs.Read.{nextOutcome}
-use Rattle.bucket_list.specs.Listed.{endOf}
-use mathlib.Core.Path.{_≡_, refl, sym, ap, _∙_}
-use Prim.Native.Nat.{ℕ, zero, suc, _+_, _-_, _*_, _≤_, _<_}
-use native.Mathlib.Omega.{arith}
-use lib.ListN.{length, getD}
+use mathlib.Core.Path.{sym, ap, _∙_}
 use borrow.Author.Needs.{needs}
 use Rattle.bucket_list.proofs.column.place_after.Statement.{statement}
 use Rattle.bucket_list.proofs.column.place_after.Tie as tie
-use Rattle.bucket_list.proofs.column.place_after.Reads as reads
-use Rattle.bucket_list.proofs.column.place_after.Lts as lts
-use Rattle.bucket_piece.proofs.values_end.Reads as values-end-reads
 
 values-end-requires : tie.Need-values-end-requires
 values-end-requires c κs = search needs
@@ -25,7 +18,9 @@ returns : tie.Need-returns
 returns c = rw (sym (c .before .before .values-end .ensures) ∙ ap nextOutcome (c .enum-told .given .1))
 
 returns-2 : tie.Need-returns-2
-returns-2 c = rw (sym (c .before .before .before .values-end .ensures) ∙ ap nextOutcome (c .before .p .given .1))
+returns-2 c =
+    let values-end = c .before .before .before .values-end in
+    rw (sym (values-end .ensures) ∙ ap nextOutcome (c .before .p .given .1))
 
 pub place-after-spec : {M : Type 1} → statement M
 place-after-spec =

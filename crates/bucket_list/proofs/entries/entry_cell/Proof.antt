@@ -1,17 +1,10 @@
 -- Null, or the three numbers from 3 * k on. Assumes nothing.
 use Rattle.row_spec.specs.Page.{listed}
-use Rattle.value_list.specs.declared.Cell.{Cell}
 use Rattle.value_list.specs.Cell.{numbersIn}
-use mathlib.Core.Path.{_≡_, refl, sym, ap, _∙_}
-use Prim.Native.Nat.{ℕ, zero, suc, _+_, _-_, _*_, _≤_, _<_}
-use native.Mathlib.Omega.{arith}
-use lib.ListN.{length, getD}
+use mathlib.Core.Path.{ap, _∙_}
 use borrow.Author.Needs.{needs}
 use Rattle.bucket_list.proofs.entries.entry_cell.Statement.{statement}
 use Rattle.bucket_list.proofs.entries.entry_cell.Tie as tie
-use Rattle.bucket_list.proofs.entries.entry_cell.Reads as reads
-use Rattle.bucket_list.proofs.entries.entry_cell.Lts as lts
-use Rattle.value_list.proofs.cell_of.Reads as cell-of-reads
 
 cell-of-requires : tie.Need-cell-of-requires
 cell-of-requires c κs = search needs
@@ -57,7 +50,9 @@ cell-of-requires-2 : tie.Need-cell-of-requires-2
 cell-of-requires-2 c κs = search needs
 
 returns-2 : tie.Need-returns-2
-returns-2 c = rw (c .before .before .before .before .if1 .left) (ap numbersIn (c .cell-of2 .ensures))
+returns-2 c =
+    let if1 = c .before .before .before .before .if1 in
+    rw (if1 .left) (ap numbersIn (c .cell-of2 .ensures))
 
 pub entry-cell-spec : {M : Type 1} → statement M
 entry-cell-spec =

@@ -1,13 +1,7 @@
 -- A null row keeps the number, any other makes it one more. Assumes nothing.
-use mathlib.Core.Path.{_≡_, refl, sym, ap, _∙_}
-use Prim.Native.Nat.{ℕ, zero, suc, _+_, _-_, _*_, _≤_, _<_}
-use native.Mathlib.Omega.{arith}
-use lib.ListN.{length, getD}
 use borrow.Author.Needs.{needs}
 use Rattle.bucket_list.proofs.entries.next_index.Statement.{statement}
 use Rattle.bucket_list.proofs.entries.next_index.Tie as tie
-use Rattle.bucket_list.proofs.entries.next_index.Reads as reads
-use Rattle.bucket_list.proofs.entries.next_index.Lts as lts
 
 returns : tie.Need-returns
 returns c = search needs
