@@ -11,9 +11,15 @@ pub record Listing : Type 0 where
   pub given : ℕ
   pub rows : ℕ
 
--- what a page makes of it: the numbers of its fields and the rest of the list, the place behind its rows, and the two counts
+-- what a page makes of it: the numbers of its fields and the rest of the list, the place behind its rows, and the two
+-- counts
 unfoldable pub turned : Listing → Page → Listing
-turned m x = record { list = written (x .fields) (m .list); place = m .place + x .given; given = x .given; rows = x .rows }
+turned m x = record {
+  list = written (x .fields) (m .list);
+  place = m .place + x .given;
+  given = x .given;
+  rows = x .rows;
+}
 
 -- a page call of outcome o returns r and turns the memory before into now
 abbrev pub PageCall : Outcome Page → ℕ → Listing → Listing → Type 0

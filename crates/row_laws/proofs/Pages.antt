@@ -12,13 +12,15 @@ use borrow.Author.Tests.{leb-true}
 use lib.ListN.{length, getD, take, drop, length-append, length-take, length-drop}
 use lib.Seq.{take-at, take-add, take-all, drop-append-add, drop-drop, getD-take, getD-drop}
 use lib.Dec.{leb}
-use Rattle.common.specs.Outcome.{Outcome, found}
+use lib.Ieee.{binary32, binary64, toBits}
+use Rattle.common.specs.Outcome.{Outcome, found, one}
 use Rattle.common.specs.Lists.{sum, every}
 use Rattle.common.proofs.Lists.{both-left, both-right}
 use Rattle.common.proofs.Outcomes.{same-found, then-found}
 use Rattle.row_spec.specs.Schema.{schema}
 use Rattle.row_spec.specs.Block.{block, rowCount, blockField}
-use Rattle.row_spec.specs.Page.{listed, numbersOf, Page, rowsFrom, pageOf, blockPage, pages}
+use Rattle.row_spec.specs.Answer.{shown}
+use Rattle.row_spec.specs.Page.{unsigned, listed, numbersOf, Page, rowsFrom, pageOf, blockPage, pages}
 use Rattle.row_spec.specs.declared.Column.{Column}
 use Rattle.row_spec.specs.declared.Field.{Field}
 use Rattle.row_spec.specs.declared.Field.the-variants as field
@@ -61,6 +63,23 @@ numbers-at (f ∷ fs) (suc j) h =
     let one = listed-length f in
     let place : 3 * suc j ≡ length (listed f) + 3 * j = omega arith in
     rw (place, drop-append-add (listed f) (numbersOf fs) (3 * j)) (numbers-at fs j (le-of-suc-le-suc h))
+
+-- The three numbers are those that a field call shows: the kind; the one of whole number, bits and start that the kind
+-- uses; the one of nanoseconds and length. What a kind does not use is 0.
+pub listed-shown : (f : Field)
+    → listed f
+    ≡ shown f .kind ∷ (unsigned (shown f .whole) + shown f .bits + shown f .start)
+    ∷ (shown f .nanos + shown f .length) ∷ []
+unfolding listed shown unsigned
+listed-shown field.Null = refl
+listed-shown (field.Bool b) = rw (add-zero (one b))
+listed-shown (field.Whole z) = rw (add-zero (unsigned z))
+listed-shown (field.F32 x) = rw (zero-add (toBits binary32 x))
+listed-shown (field.NanF32 n) = rw (zero-add n)
+listed-shown (field.F64 x) = rw (zero-add (toBits binary64 x))
+listed-shown (field.NanF64 n) = rw (zero-add n)
+listed-shown (field.Time z n) = rw (add-zero (unsigned z), add-zero n)
+listed-shown (field.Place a l) = rw (zero-add a, zero-add l)
 
 -- ---- pages one after the other
 -- what was taken is dropped

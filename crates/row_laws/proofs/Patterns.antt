@@ -35,7 +35,8 @@ module _ (f : Format) (n : ℕ) where
     unfolding pattern
     good-pattern h = sym (ap (λ (t : Bool). pick t (bad n) (good (ofBits f n))) (no-nan h))
 
--- The answer to a pattern has exactly the stored bits: once for every format, whatever tells of its two cases what g tells of bits.
+-- The answer to a pattern has exactly the stored bits: once for every format, whatever tells of its two cases what g
+-- tells of bits.
 pub stored-bits : {A : Type 0} (f : Format) (bits : ℕ → Field) (float : Float → Field) (of : Field → A) (g : ℕ → A)
     → ((n : ℕ) → of (bits n) ≡ g n)
     → ((x : Float) → of (float x) ≡ g (toBits f x))

@@ -1,5 +1,5 @@
--- A row's fields stand one after the other behind its null bits, and a row where the one before ends: so a run lists a row, and rows
--- listed one after the other are a page.
+-- A row's fields stand one after the other behind its null bits, and a row where the one before ends: so a run lists
+-- a row, and rows listed one after the other are a page.
 -- Assumes nothing.
 use mathlib.Core.Path.{_≡_, refl, sym, ap, _∙_}
 use mathlib.Core.Bool.{Bool, true, false}
@@ -235,5 +235,6 @@ module _ (s : List ℕ) (cols : List Column) (rows p room given : ℕ) (list : L
             let here : p < length rs = omega (arith, is, less, many) in
             let so = chosen-many rs e many in
             let same : given ≡ length (rowsFrom (length cols) rs p room) = sym so in
-            (same, rows-listed s cols rs e p room list after from given so here (rw count at start) (rw count at listed));
+            let held = rows-listed s cols rs e p room list after from given so here (rw count at start) in
+            (same, held (rw count at listed));
       }

@@ -17,8 +17,8 @@ use mathlib.Core.Bool.{false}
 abbrev pub rowStorage : Column → Storage
 rowStorage c = storageOf false (c .ty)
 
--- A row at at, of columns that are stored so: the list, which held the numbers of the fields of done, up to k, holds those of the row
--- too, and the next row starts at next.
+-- A row at at, of columns that are stored so: the list, which held the numbers of the fields of done, up to k, holds
+-- those of the row too, and the next row starts at next.
 pub record RowListed (s : List ℕ) (sts : List Storage) (at k : ℕ) (before after : List ℕ) (next : ℕ) : Type 0 where
   pub says : (cols : List Column) (x : Row) (done : List Field) (base : List ℕ)
       → sts ≡ map rowStorage cols → row s cols at ≡ found x

@@ -1,4 +1,5 @@
--- Pages of a table: its rows' fields as numbers in a lent list, three for each field, as many whole rows as the list takes.
+-- Pages of a table: its rows' fields as numbers in a lent list, three for each field, as many whole rows as the list
+-- takes.
 use Prim.Native.Nat.{ℕ, _+_, _-_, _*_, _/_}
 use mathlib.Core.Path.{_≡_}
 use mathlib.Core.List.{List, [], _∷_, _++_, flatMap, flatten}
@@ -18,7 +19,8 @@ unfoldable pub unsigned : ℤ → ℕ
 unsigned (pos n) = n
 unsigned (negsuc n) = 18446744073709551615 - n
 
--- a field in three numbers: its kind, as `shown` has it; the whole number, bits, count or start; the nanoseconds or length
+-- a field in three numbers: its kind, as `shown` has it; the whole number, bits, count or start; the nanoseconds or
+-- length
 unfoldable pub listed : Field → List ℕ
 listed field.Null = 0 ∷ 0 ∷ 0 ∷ []
 listed (field.Bool b) = 1 ∷ one b ∷ 0 ∷ []

@@ -1,5 +1,5 @@
--- One field more of a list: its three numbers go behind those that are there, the list's rest stays. A run is such fields, each where
--- the one before ends.
+-- One field more of a list: its three numbers go behind those that are there, the list's rest stays. A run is such
+-- fields, each where the one before ends.
 -- Assumes nothing.
 use mathlib.Core.Path.{_≡_, refl, sym, ap, ap₂, _∙_}
 use mathlib.Core.Bool.{Bool, true, false}
@@ -69,7 +69,10 @@ module _ (s : List ℕ) (sts : List Storage) (r : Run) (n from k : ℕ) (before 
 
   pub upto-none : Upto 0 before from
   upto-none =
-      record { says = λ place fs done base len start stand w e. (sym start, w ∙ ap (λ (l : List Field). written l base) (sym (append-nil done))) }
+      record {
+        says = λ place fs done base len start stand w e.
+            (sym start, w ∙ ap (λ (l : List Field). written l base) (sym (append-nil done)));
+      }
 
   pub upto-more : (m at : ℕ) (list next : List ℕ) (c : Cell) → m < n → Upto m list at
       → Holds (runAt s r m (storedAs r sts m) at) c → Puts (k + 3 * m) c list next
@@ -88,7 +91,8 @@ module _ (s : List ℕ) (sts : List Storage) (r : Run) (n from k : ℕ) (before 
           let long : k + 3 * m ≡ 3 * length (done ++ take m fs) = rw length-append (omega arith) in
           let put = puts .more (done ++ take m fs) base (getD fs m Null) (so .1) long (holds .numbers _ _ reads) in
           let one : (done ++ take m fs) ++ (getD fs m Null ∷ []) ≡ done ++ take (suc m) fs =
-          append-assoc done (take m fs) _ ∙ ap (λ (l : List Field). done ++ l) (sym (take-suc fs m Null (omega arith))) in
+          append-assoc done (take m fs) _
+          ∙ ap (λ (l : List Field). done ++ l) (sym (take-suc fs m Null (omega arith))) in
           rw add-one (holds .ends _ _ reads, put ∙ ap (λ (l : List Field). written l base) one)
 
   pub upto-all : (list : List ℕ) (end : ℕ) → Upto n list end → Ran s sts r n from k before list end

@@ -82,7 +82,9 @@ module _ (big : Bool) (s : List ℕ) (at : ℕ) (c : Cell) where
 
   -- the cell has the number of w bytes, which is small enough
   abbrev Word : ℕ → ℕ → Type 0
-  Word w k = leb (at + w) (length s) ≡ true → (c ≡ cellOf k (wordAt big s at w) 0 (at + w)) × (wordAt big s at w < 256 ^ w)
+  Word w k =
+      leb (at + w) (length s) ≡ true
+      → (c ≡ cellOf k (wordAt big s at w) 0 (at + w)) × (wordAt big s at w < 256 ^ w)
 
   pub boolean-holds : Word 1 1 → Holds (storedAt big s at storage.Boolean) c
   unfolding storedAt booleanAt listed
@@ -101,7 +103,8 @@ module _ (big : Bool) (s : List ℕ) (at : ℕ) (c : Cell) where
       → Holds (wholeAt big s at w half) c
   unfolding wholeAt listed
   whole-holds w half h =
-      room-holds c s at w _ (λ r. cell-holds c 2 _ 0 (field.Whole (signedOf half (wordAt big s at w))) (at + w) (h r) refl)
+      room-holds c s at w _ (λ r.
+      cell-holds c 2 _ 0 (field.Whole (signedOf half (wordAt big s at w))) (at + w) (h r) refl)
 
   -- 64 bits as they are
   pub long-holds : Word 8 2 → Holds (storedAt big s at storage.Int64) c
@@ -139,7 +142,8 @@ place-holds s least n next short c h =
     room-holds c s next n _ (λ r.
     pick-holds c (leb least n) _ (cell-holds c 6 next n (field.Place next n) (next + n) (h r) refl))
 
-pub nanos-holds : (count n next : ℕ) (short : Bool) (c : Cell) → count < 18446744073709551616 → c ≡ cellOf 5 count n next
+pub nanos-holds : (count n next : ℕ) (short : Bool) (c : Cell) → count < 18446744073709551616
+    → c ≡ cellOf 5 count n next
     → Holds (nanosOf (signedOf 9223372036854775808 count) (Number n next short)) c
 unfolding nanosOf listed
 nanos-holds count n next short c h is =

@@ -29,14 +29,15 @@ pub record Holds (v : Value) (c : Cell) : Type 0 where
   pub numbers : (f : Field) (next : ℕ) → v ≡ Read f next → numbersIn c ≡ listed f
   pub ends : (f : Field) (next : ℕ) → v ≡ Read f next → c .next ≡ next
 
--- A list that held the numbers of the fields of done, up to k, holds those of one field more: the one in the cell. What it was before
--- them is base.
+-- A list that held the numbers of the fields of done, up to k, holds those of one field more: the one in the cell.
+-- What it was before them is base.
 pub record Puts (k : ℕ) (c : Cell) (before after : List ℕ) : Type 0 where
   pub more : (done : List Field) (base : List ℕ) (f : Field)
       → before ≡ written done base → k ≡ 3 * length done → numbersIn c ≡ listed f
       → after ≡ written (done ++ (f ∷ [])) base
 
--- field m of a run that lies so, of which value bytes, if it has any, start at at: null where its bit is set, else the value stored so
+-- field m of a run that lies so, of which value bytes, if it has any, start at at: null where its bit is set, else
+-- the value stored so
 abbrev pub runAt : List ℕ → Run → ℕ → Storage → ℕ → Value
 runAt s r m st at =
     pick (both (r .mapped) (eqb (lowBit s (r .nulls) (r .bit + m)) 1)) (Read Null at) (storedAt (r .big) s at st)
@@ -50,8 +51,10 @@ abbrev pub Stand : List ℕ → List Storage → Run → (ℕ → ℕ) → List 
 Stand s sts r place fs =
     (m : ℕ) → m < length fs → runAt s r m (storedAs r sts m) (place m) ≡ Read (getD fs m Null) (place (suc m))
 
--- A run of n fields from from on: the list, which held the numbers of the fields of done, up to k, holds those of the run too.
-pub record Ran (s : List ℕ) (sts : List Storage) (r : Run) (n from k : ℕ) (before after : List ℕ) (end : ℕ) : Type 0 where
+-- A run of n fields from from on: the list, which held the numbers of the fields of done, up to k, holds those of the
+-- run too.
+pub record Ran (s : List ℕ) (sts : List Storage) (r : Run) (n from k : ℕ) (before after : List ℕ) (end : ℕ)
+    : Type 0 where
   pub says : (place : ℕ → ℕ) (fs done : List Field) (base : List ℕ)
       → length fs ≡ n → place 0 ≡ from → Stand s sts r place fs
       → before ≡ written done base → k ≡ 3 * length done

@@ -15,7 +15,9 @@ use Rattle.row_list.proofs.list_rows.Statement.{statement}
 use Rattle.row_list.proofs.list_rows.Tie as tie
 
 abbrev Inv-loop : tie.InvT-loop
-Inv-loop s from given list₀ n storages at₀ k₀ r₀ list at k r = (r ≤ given) × (length list ≡ length list₀) × (k ≡ r * (3 * n)) × ((cols : List Column) → take n storages ≡ map rowStorage cols → Upto s cols from given list₀ r list at k)
+Inv-loop s from given list₀ n storages at₀ k₀ r₀ list at k r =
+    (r ≤ given) × (length list ≡ length list₀) × (k ≡ r * (3 * n))
+    × ((cols : List Column) → take n storages ≡ map rowStorage cols → Upto s cols from given list₀ r list at k)
 
 abbrev μ-loop : tie.MeasureT-loop
 μ-loop s from given list₀ n storages at₀ k₀ r₀ list at k r = given - r
@@ -69,7 +71,8 @@ loop-again c =
           (loop .inv .2),
       λ cols stored. let many = columns-many (args .s .now) (made .result) (args .sc .count) (loop .at)
           enough cols stored in let upto = loop .inv .3 cols stored in rw (← many)
-          (upto-more (args .s .now) cols (args .from) (args .given) (args .list .now) (loop .r) (loop .at) (loop .k) _ (loop .list) _ _ turn upto stored (row .ensures)),
+          (upto-more (args .s .now) cols (args .from) (args .given) (args .list .now) (loop .r) (loop .at) (loop .k) _
+          (loop .list) _ _ turn upto stored (row .ensures)),
     )
 
 same-length : tie.Need-same-length Inv-loop μ-loop

@@ -15,7 +15,8 @@ use Rattle.row_list.proofs.storages_of.Statement.{statement}
 use Rattle.row_list.proofs.storages_of.Tie as tie
 
 abbrev Inv-loop : tie.InvT-loop
-Inv-loop sc n storages₀ i₀ storages i = (i ≤ n) × (length storages ≡ 64) × (take i storages ≡ map rowStorage (take i (sc .columns)))
+Inv-loop sc n storages₀ i₀ storages i =
+    (i ≤ n) × (length storages ≡ 64) × (take i storages ≡ map rowStorage (take i (sc .columns)))
 
 abbrev μ-loop : tie.MeasureT-loop
 μ-loop sc n storages₀ i₀ storages i = n - i
@@ -51,7 +52,8 @@ loop-again c =
       omega arith,
       length-set (loop .storages) (loop .i) _ ∙ loop .inv .1,
       mapped-next rowStorage (loop .storages)
-          (args .t1 .columns) (loop .i) _ blankColumn (omega arith) (omega arith) (loop .inv .2) (c .storage-of .ensures),
+          (args .t1 .columns) (loop .i) _ blankColumn (omega arith) (omega arith) (loop .inv .2)
+          (c .storage-of .ensures),
     )
 
 returns : tie.Need-returns Inv-loop μ-loop

@@ -10,7 +10,8 @@ use Rattle.value_list.proofs.list_run.Statement.{statement}
 use Rattle.value_list.proofs.list_run.Tie as tie
 
 abbrev Inv-loop : tie.InvT-loop
-Inv-loop s run n from list₀ k storages at₀ m₀ list at m = (m ≤ n) × (length list ≡ length list₀) × Upto s storages run n from k list₀ m list at
+Inv-loop s run n from list₀ k storages at₀ m₀ list at m =
+    (m ≤ n) × (length list ≡ length list₀) × Upto s storages run n from k list₀ m list at
 
 abbrev μ-loop : tie.MeasureT-loop
 μ-loop s run n from list₀ k storages at₀ m₀ list at m = n - m
