@@ -64,6 +64,9 @@ numbers-at (f ∷ fs) (suc j) h =
     let place : 3 * suc j ≡ length (listed f) + 3 * j = omega arith in
     rw (place, drop-append-add (listed f) (numbersOf fs) (3 * j)) (numbers-at fs j (le-of-suc-le-suc h))
 
+sums : (k a b c d : ℕ) → a ≡ b → c ≡ d → k ∷ a ∷ c ∷ [] ≡ k ∷ b ∷ d ∷ []
+sums k a b c d e f = rw (e, f)
+
 -- The three numbers are those that a field call shows: the kind; the one of whole number, bits and start that the kind
 -- uses; the one of nanoseconds and length. What a kind does not use is 0.
 pub listed-shown : (f : Field)
@@ -72,14 +75,14 @@ pub listed-shown : (f : Field)
     ∷ (shown f .nanos + shown f .length) ∷ []
 unfolding listed shown unsigned
 listed-shown field.Null = refl
-listed-shown (field.Bool b) = rw (add-zero (one b))
-listed-shown (field.Whole z) = rw (add-zero (unsigned z))
-listed-shown (field.F32 x) = rw (zero-add (toBits binary32 x))
-listed-shown (field.NanF32 n) = rw (zero-add n)
-listed-shown (field.F64 x) = rw (zero-add (toBits binary64 x))
-listed-shown (field.NanF64 n) = rw (zero-add n)
-listed-shown (field.Time z n) = rw (add-zero (unsigned z), add-zero n)
-listed-shown (field.Place a l) = rw (zero-add a, zero-add l)
+listed-shown (field.Bool b) = sums 1 (one b) (one b + 0 + 0) 0 0 (omega arith) refl
+listed-shown (field.Whole z) = sums 2 (unsigned z) (unsigned z + 0 + 0) 0 0 (omega arith) refl
+listed-shown (field.F32 x) = sums 3 (toBits binary32 x) (0 + toBits binary32 x + 0) 0 0 (omega arith) refl
+listed-shown (field.NanF32 n) = sums 3 n (0 + n + 0) 0 0 (omega arith) refl
+listed-shown (field.F64 x) = sums 4 (toBits binary64 x) (0 + toBits binary64 x + 0) 0 0 (omega arith) refl
+listed-shown (field.NanF64 n) = sums 4 n (0 + n + 0) 0 0 (omega arith) refl
+listed-shown (field.Time z n) = sums 5 (unsigned z) (unsigned z + 0 + 0) n (n + 0) (omega arith) (omega arith)
+listed-shown (field.Place a l) = sums 6 a (0 + 0 + a) l (0 + l) (omega arith) (omega arith)
 
 -- ---- pages one after the other
 -- what was taken is dropped
