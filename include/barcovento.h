@@ -34,6 +34,8 @@
 #include <stddef.h>
 #include <stdint.h>
 
+#define BARCOVENTO_VERSION "0.1.0"
+
 #ifdef __cplusplus
 extern "C" {
 #endif
