@@ -6,9 +6,17 @@ use crate::refusal::{settled, Fault, Refusal};
 /// One more than the largest position.
 pub const POSITIONS: u32 = 2_097_152;
 
-/// The most bytes that a written form has: 6, for each of 32 chunks 3 and 256 descriptors of 6 bits, and
-/// for each of 8,192 containers 32.
-pub const LONGEST_FORM: usize = 6 + 32 * (3 + 192) + 8_192 * 32;
+/// The most containers that a bitmap has.
+const CONTAINERS: usize = 8_192;
+
+/// The most bytes that a written form has: 267,366 (proved, `bitmap_laws: form-tight`).
+pub const LONGEST_FORM: usize = form_room(CONTAINERS);
+
+/// The most bytes that a written form of this many containers has (proved, `bitmap_laws: chunks-tight`): a
+/// chunk of 256 descriptors and what its containers take under 32 bytes each come to 163 at most.
+pub(crate) const fn form_room(containers: usize) -> usize {
+    6 + 163 * containers.div_ceil(256) + 32 * containers
+}
 
 /// The number of members.
 pub fn check(bytes: &[u8]) -> Result<u32, Refusal> {
@@ -169,6 +177,5 @@ pub fn combined_room(a: &[u8], b: &[u8]) -> usize {
         [_, _, _, _, low, high, ..] => usize::from(*low) + 256 * usize::from(*high),
         _ => 0,
     };
-    let most = containers(a).max(containers(b)).min(8_192);
-    6 + most.div_ceil(256) * (3 + 192) + most * 32
+    form_room(containers(a).max(containers(b)).min(CONTAINERS))
 }

@@ -25,9 +25,8 @@ impl Bitmap {
 
     /// The set of these strictly rising positions. Refusal 12.
     pub fn from_positions(positions: &[u32]) -> Result<Bitmap, Refusal> {
-        let containers = positions.last().map_or(0, |last| *last as usize / 256 + 1).min(8_192);
-        let room = 6 + containers.div_ceil(256) * 195 + containers * 32;
-        let mut form = vec![0; room];
+        let containers = positions.last().map_or(0, |last| *last as usize / 256 + 1);
+        let mut form = vec![0; bitmap::form_room(containers).min(bitmap::LONGEST_FORM)];
         let length = bitmap::write(positions, &mut form)?;
         form.truncate(length);
         form.shrink_to_fit();
