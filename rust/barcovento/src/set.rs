@@ -19,8 +19,7 @@ pub struct Bitmap {
 impl Bitmap {
     /// The set that these bytes stand for, whoever wrote them. Refusals 1 to 11.
     pub fn from_bytes(bytes: &[u8]) -> Result<Bitmap, Refusal> {
-        let form = combined(Operation::Union, bytes, bytes)?;
-        Bitmap::of_form(form)
+        combined(Operation::Union, bytes, bytes).map(Bitmap::of_form)
     }
 
     /// The set of these strictly rising positions. Refusal 12.
@@ -33,10 +32,10 @@ impl Bitmap {
         Ok(Bitmap { form, cardinality: positions.len() as u32 })
     }
 
-    /// A written form, as a call gave it.
-    fn of_form(form: Vec<u8>) -> Result<Bitmap, Refusal> {
-        let cardinality = bitmap::check(&form)?;
-        Ok(Bitmap { form, cardinality })
+    /// A written form, as a call gave it: its cardinality stands in bytes 1 to 3.
+    pub(crate) fn of_form(form: Vec<u8>) -> Bitmap {
+        let cardinality = u32::from_le_bytes([form[1], form[2], form[3], 0]);
+        Bitmap { form, cardinality }
     }
 
     /// The one written form.
@@ -77,7 +76,7 @@ impl Bitmap {
 
     /// The set that an operation makes of this one and another.
     pub fn combine(&self, operation: Operation, other: &Bitmap) -> Bitmap {
-        sound(combined(operation, &self.form, &other.form).and_then(Bitmap::of_form))
+        Bitmap::of_form(sound(combined(operation, &self.form, &other.form)))
     }
 }
 

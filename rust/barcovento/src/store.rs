@@ -78,7 +78,7 @@ impl Store {
         let mut form = vec![0; self.length_of(slot)];
         let length = self.fetch_into(owner, slot, &mut form)?;
         form.truncate(length);
-        Bitmap::from_bytes(&form)
+        Ok(Bitmap::of_form(form))
     }
 
     /// The form in the owner's slot into the output: its length. Refusals 40, 44, 41, 13.
