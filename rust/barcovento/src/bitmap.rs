@@ -11,6 +11,7 @@ pub const POSITIONS: u32 = 2_097_152;
 pub const LONGEST_FORM: usize = 6 + 32 * (3 + 192) + 8_192 * 32;
 
 /// The number of members.
+#[inline]
 pub fn check(bytes: &[u8]) -> Result<u32, Refusal> {
     let mut cardinality = 0;
     // SAFETY: the pointers are those of a slice and of a number, good for the call.
@@ -20,6 +21,7 @@ pub fn check(bytes: &[u8]) -> Result<u32, Refusal> {
 }
 
 /// Why the bitmap is refused; nothing if it is accepted.
+#[inline]
 pub fn explain(bytes: &[u8]) -> Option<Fault> {
     let mut fault = Fault { number: 0, index: 0, byte: 0, found: 0, wanted: 0 };
     // SAFETY: as in `check`; the five outputs are apart.
@@ -38,22 +40,32 @@ pub fn explain(bytes: &[u8]) -> Option<Fault> {
 }
 
 /// The outcome of a call on one bitmap that returned this status.
+#[inline]
 fn judged(status: u32, bytes: &[u8]) -> Result<(), Refusal> {
     judged_of(status, &[bytes])
 }
 
-/// The outcome of a call on bitmaps that returned this status: a refusal of a bitmap is that of the first
-/// one that has a fault.
+/// The outcome of a call on bitmaps that returned this status.
+#[inline]
 pub(crate) fn judged_of(status: u32, bitmaps: &[&[u8]]) -> Result<(), Refusal> {
-    if !(1..=11).contains(&status) {
-        return settled(status);
+    match status {
+        0 => Ok(()),
+        number => Err(refused(number, bitmaps)),
     }
+}
+
+/// The refusal of a call on bitmaps: that of a bitmap is of the first one that has a fault.
+#[cold]
+fn refused(number: u32, bitmaps: &[&[u8]]) -> Refusal {
     let refused =
         |(input, bytes): (usize, &&[u8])| Some(Refusal::of_bitmap(explain(bytes)?, input));
-    Err(bitmaps.iter().enumerate().find_map(refused).unwrap_or(Refusal::new(status)))
+    let of_bitmap = Some(number).filter(|number| (1..=11).contains(number));
+    let first = of_bitmap.and_then(|_| bitmaps.iter().enumerate().find_map(refused));
+    first.unwrap_or(Refusal::new(number))
 }
 
 /// Whether the position is a member.
+#[inline]
 pub fn probe(bytes: &[u8], position: u32) -> Result<bool, Refusal> {
     let mut member = 0;
     // SAFETY: as in `check`.
@@ -64,6 +76,7 @@ pub fn probe(bytes: &[u8], position: u32) -> Result<bool, Refusal> {
 }
 
 /// How many members lie below the position.
+#[inline]
 pub fn rank(bytes: &[u8], position: u32) -> Result<u32, Refusal> {
     let mut below = 0;
     // SAFETY: as in `check`.
@@ -82,6 +95,7 @@ pub struct Listing {
 }
 
 /// The next members into the list, as many as it takes: how many. The listing steps on.
+#[inline]
 pub fn page(bytes: &[u8], listing: &mut Listing, list: &mut [u32]) -> Result<usize, Refusal> {
     let (mut given, mut finished) = (0, u8::from(listing.finished));
     // SAFETY: as in `check`; the list is lent for as many numbers as it has.
@@ -102,6 +116,7 @@ pub fn page(bytes: &[u8], listing: &mut Listing, list: &mut [u32]) -> Result<usi
 }
 
 /// The one written form of strictly rising positions into the output: its length. Refusals 12, 13.
+#[inline]
 pub fn write(positions: &[u32], out: &mut [u8]) -> Result<usize, Refusal> {
     let mut length = 0;
     // SAFETY: the pointers are those of two slices, which are apart, and of a number.
@@ -144,6 +159,7 @@ impl Operation {
 }
 
 /// The one written form of the combined set into the output: its length. Refusals 1 to 11 of a, of b, 13.
+#[inline]
 pub fn combine(operation: Operation, a: &[u8], b: &[u8], out: &mut [u8]) -> Result<usize, Refusal> {
     let mut length = 0;
     // SAFETY: the pointers are those of slices; the output is apart from all else.

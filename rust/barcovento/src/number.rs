@@ -21,6 +21,7 @@ pub enum Number {
 }
 
 /// The number at the front of the bytes; what follows it is not looked at.
+#[inline]
 pub fn read(bytes: &[u8]) -> Number {
     let (mut found, mut value, mut used, mut shortest) = (0, 0, 0, 0);
     // SAFETY: the pointers are those of a slice and of four numbers, good for the call.

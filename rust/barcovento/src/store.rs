@@ -34,19 +34,25 @@ impl Store {
     /// The store that was saved as these bytes, in a buffer of this many bytes. Refusal 42.
     pub fn load(saved: &[u8], room: usize) -> Result<Store, Refusal> {
         let mut store = Store::new(room);
+        store.reload(saved)?;
+        Ok(store)
+    }
+
+    /// Each slot holds its entry of the saved bytes, in place of what it held, in the same buffer.
+    /// Refusal 42.
+    pub fn reload(&mut self, saved: &[u8]) -> Result<(), Refusal> {
         // SAFETY: the pointers are those of three slices, which are apart.
         let status = unsafe {
             raw::bv_store_load(
-                store.buffer.as_mut_ptr(),
-                store.buffer.len(),
-                store.directory.as_mut_ptr(),
-                store.directory.len(),
+                self.buffer.as_mut_ptr(),
+                self.buffer.len(),
+                self.directory.as_mut_ptr(),
+                self.directory.len(),
                 saved.as_ptr(),
                 saved.len(),
             )
         };
-        settled(status)?;
-        Ok(store)
+        settled(status)
     }
 
     /// How many bytes the buffer has: each owner has half of them.
