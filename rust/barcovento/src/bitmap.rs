@@ -57,11 +57,12 @@ pub(crate) fn judged_of(status: u32, bitmaps: &[&[u8]]) -> Result<(), Refusal> {
 /// The refusal of a call on bitmaps: that of a bitmap is of the first one that has a fault.
 #[cold]
 fn refused(number: u32, bitmaps: &[&[u8]]) -> Refusal {
-    let refused =
+    if !(1..=11).contains(&number) {
+        return Refusal::new(number);
+    }
+    let of_bitmap =
         |(input, bytes): (usize, &&[u8])| Some(Refusal::of_bitmap(explain(bytes)?, input));
-    let of_bitmap = Some(number).filter(|number| (1..=11).contains(number));
-    let first = of_bitmap.and_then(|_| bitmaps.iter().enumerate().find_map(refused));
-    first.unwrap_or(Refusal::new(number))
+    bitmaps.iter().enumerate().find_map(of_bitmap).unwrap_or(Refusal::new(number))
 }
 
 /// Whether the position is a member.

@@ -38,7 +38,7 @@ fn line(operation: Operation, name: &str, first: &[u32], second: &[u32]) -> Line
         before,
         &mut |call| match call {
             None => {
-                black_box(bitmap::combine(named(operation), &a, &b, &mut out)).ok();
+                black_box(bitmap::combine(named(operation), &a, &b, &mut out).ok());
             }
             Some(call) => combine(call, &a, &b, &mut out),
         },

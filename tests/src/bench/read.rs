@@ -88,7 +88,7 @@ fn explain(earlier: Option<Explain>, bytes: &[u8]) {
 
 fn check(earlier: Option<Check>, bytes: &[u8]) {
     let Some(call) = earlier else {
-        black_box(bitmap::check(bytes)).ok();
+        black_box(bitmap::check(bytes).ok());
         return;
     };
     let mut cardinality = 0;
@@ -98,7 +98,7 @@ fn check(earlier: Option<Check>, bytes: &[u8]) {
 
 fn probe(earlier: Option<Probe>, bytes: &[u8], position: u32) {
     let Some(call) = earlier else {
-        black_box(bitmap::probe(bytes, position)).ok();
+        black_box(bitmap::probe(bytes, position).ok());
         return;
     };
     let mut member = 0;
@@ -108,7 +108,7 @@ fn probe(earlier: Option<Probe>, bytes: &[u8], position: u32) {
 
 fn rank(earlier: Option<Rank>, bytes: &[u8], position: u32) {
     let Some(call) = earlier else {
-        black_box(bitmap::rank(bytes, position)).ok();
+        black_box(bitmap::rank(bytes, position).ok());
         return;
     };
     let mut below = 0;
@@ -118,7 +118,7 @@ fn rank(earlier: Option<Rank>, bytes: &[u8], position: u32) {
 
 fn list(earlier: Option<Page>, bytes: &[u8], list: &mut [u32]) {
     let Some(call) = earlier else {
-        black_box(bitmap::page(bytes, &mut Listing::default(), list)).ok();
+        black_box(bitmap::page(bytes, &mut Listing::default(), list).ok());
         return;
     };
     let (mut place, mut finished, mut given) = (0, 0, 0);

@@ -28,7 +28,7 @@ pub fn run(print: Print) {
 
 fn write(earlier: Option<Write>, set: &[u32], out: &mut [u8]) {
     let Some(call) = earlier else {
-        black_box(bitmap::write(set, out)).ok();
+        black_box(bitmap::write(set, out).ok());
         return;
     };
     let mut length = 0;

@@ -109,7 +109,7 @@ impl Bench {
         let before = earlier!(bv_bucket_check as Check).filter(|&call| self.check(call) == 0);
         let checking = &mut |call| match call {
             None => {
-                black_box(Bucket::new(schema, *rows, bucket)).ok();
+                black_box(Bucket::new(schema, *rows, bucket).ok());
             }
             Some(call) => assert_eq!(self.check(call), 0),
         };

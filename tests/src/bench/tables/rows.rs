@@ -86,7 +86,7 @@ impl Bench {
         let before = earlier!(bv_block_check as Check).filter(|&call| self.check(call) == 0);
         let checking = &mut |call| match call {
             None => {
-                black_box(Block::new(&self.schema, &self.block)).ok();
+                black_box(Block::new(&self.schema, &self.block).ok());
             }
             Some(call) => assert_eq!(self.check(call), 0),
         };
