@@ -1,4 +1,19 @@
 //! The calls on bitmaps, each on slices: every one judges its bitmaps whole.
+//!
+//! ```
+//! use barcovento::bitmap::{self, Listing};
+//! let mut form = [0; 64];
+//! let length = bitmap::write(&[0, 34, 255], &mut form)?;
+//! let form = &form[..length];
+//! assert_eq!((bitmap::check(form)?, bitmap::probe(form, 34)?, bitmap::rank(form, 34)?), (3, true, 1));
+//!
+//! let (mut listing, mut list) = (Listing::default(), [0; 2]);
+//! assert_eq!(bitmap::page(form, &mut listing, &mut list)?, 2);
+//! assert_eq!((list, listing.finished), ([0, 34], false));
+//! assert_eq!(bitmap::page(form, &mut listing, &mut list)?, 1);
+//! assert_eq!((list[0], listing.finished), (255, true));
+//! # Ok::<(), barcovento::Refusal>(())
+//! ```
 
 use crate::raw;
 use crate::refusal::{settled, Fault, Refusal};

@@ -13,6 +13,18 @@ const SLOTS: u32 = 64;
 ///
 /// Owner 0 has slots 0 to 31 and the buffer's first half, owner 1 slots 32 to 63 and the second half. What
 /// one owner does never changes what the other finds.
+///
+/// ```
+/// use barcovento::{Bitmap, Store};
+/// let zone = Bitmap::from_positions(&[0, 34, 255])?;
+/// let mut store = Store::new(1_000);
+/// store.put(0, 7, zone.as_bytes())?;
+/// assert_eq!(store.put(1, 7, zone.as_bytes()).unwrap_err().number(), 44);
+/// let saved = store.save();
+/// assert_eq!(saved.len(), 64 + 12);
+/// assert_eq!(Store::load(&saved, 24)?.fetch(0, 7)?, zone);
+/// # Ok::<(), barcovento::Refusal>(())
+/// ```
 #[derive(Clone)]
 pub struct Store {
     buffer: Vec<u8>,

@@ -196,6 +196,7 @@ fn pages_into_lent_lists() {
     assert_eq!(block.page_into(7, &mut list), 3);
     assert_eq!((&list[..36], &list[36..]), (block.page(7, 99).numbers(), &[9; 4][..]));
     assert_eq!(block.page_into(10, &mut list), 0);
+    assert_eq!((block.pages(0).count(), bucket.pages(0, 0).unwrap().count()), (10, 10));
     assert_eq!(bucket.page_into(1, 0, &mut list[..8]), Ok(2));
     assert_eq!(list[..6], *bucket.page(1, 0, 2).unwrap().numbers());
     assert_eq!(bucket.page_into(1, u32::MAX, &mut list), Ok(0));

@@ -3,7 +3,7 @@
 mod common;
 
 use barcovento::raw;
-use barcovento::{Bitmap, Store};
+use barcovento::{Bitmap, Block, Bucket, Schema, Store};
 use common::table::Table;
 use common::{longest, with_exceptions, writers, Random};
 use std::collections::BTreeSet;
@@ -410,6 +410,35 @@ fn little_stack_is_enough() {
             thread.spawn_scoped(scope, asking).unwrap().join().unwrap();
         });
     }
+}
+
+/// The wrapper's own work, which needs no more stack.
+fn wrapped(inputs: &Inputs) {
+    let bitmaps: Vec<_> = inputs.bitmaps.iter().map(|bytes| Bitmap::from_bytes(bytes)).collect();
+    let [first, second] = [0, 1].map(|n| bitmaps[n].as_ref().unwrap());
+    let both = &(first | second) - &(first ^ second);
+    assert_eq!(both, first & second);
+    assert_eq!(both.iter().count(), both.len() as usize);
+    for bytes in &inputs.refused {
+        assert_eq!(Bitmap::from_bytes(bytes).unwrap_err().number(), 11);
+    }
+    let mut store = Store::load(&inputs.saved, inputs.room).unwrap();
+    store.put(1, 63, first.as_bytes()).unwrap();
+    assert_eq!(store.fetch(1, 63).as_ref(), Ok(first));
+    assert!(store.save().len() <= inputs.saved.len());
+    let schema = Schema::new(&inputs.schema).unwrap();
+    let block = Block::new(&schema, &inputs.block).unwrap();
+    let bucket = Bucket::new(&schema, inputs.rows, &inputs.bucket).unwrap();
+    assert_eq!(block.rows_from(60_000).count(), bucket.rows_from(60_000).count());
+}
+
+#[test]
+fn little_stack_is_enough_for_the_wrapper() {
+    let inputs = Inputs::largest();
+    scope(|scope| {
+        let thread = Builder::new().stack_size(STACK).spawn_scoped(scope, || wrapped(&inputs));
+        thread.unwrap().join().unwrap();
+    });
 }
 
 /// What each call answers, asked from this one on.
