@@ -104,19 +104,15 @@ fn median(mut values: Vec<f64>) -> f64 {
     values[values.len() / 2]
 }
 
-/// Measures all sides by turns, and which one begins by turns too. `library` is called with nothing for the
-/// library that is linked, and otherwise with the earlier library's call.
-fn measure<C: Copy>(
-    call: &str,
-    input: &str,
-    earlier: Option<C>,
+/// How many calls make a run, of the second program or of one library.
+type Task<C> = (u32, Option<Option<C>>);
+
+/// The times of all tasks, which run by turns; which one begins goes by turns too.
+fn take_turns<C: Copy>(
+    tasks: &[Task<C>],
     library: &mut dyn FnMut(Option<C>),
     reference: &mut dyn FnMut(),
-) -> Line {
-    let mut tasks = vec![(calls(reference), None), (calls(&mut || library(None)), Some(None))];
-    if earlier.is_some() {
-        tasks.push((calls(&mut || library(earlier)), Some(earlier)));
-    }
+) -> Vec<Vec<f64>> {
     let mut times = vec![Vec::new(); tasks.len()];
     let mut slow = false;
     for run in 0..RUNS {
@@ -134,6 +130,23 @@ fn measure<C: Copy>(
             times[task].push(time);
         }
     }
+    times
+}
+
+/// Measures all sides. `library` is called with nothing for the library that is linked, and otherwise with
+/// the earlier library's call.
+fn measure<C: Copy>(
+    call: &str,
+    input: &str,
+    earlier: Option<C>,
+    library: &mut dyn FnMut(Option<C>),
+    reference: &mut dyn FnMut(),
+) -> Line {
+    let mut tasks = vec![(calls(reference), None), (calls(&mut || library(None)), Some(None))];
+    if earlier.is_some() {
+        tasks.push((calls(&mut || library(earlier)), Some(earlier)));
+    }
+    let times = take_turns(&tasks, library, reference);
     // What the outputs then hold, which the callers look at, is the library's.
     library(None);
     let ratio =
