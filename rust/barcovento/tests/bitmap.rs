@@ -184,6 +184,9 @@ fn rooms_are_enough() {
         assert!(set.is_empty() || bitmap::write(&set, &mut out[1..]).is_err());
     }
     assert_eq!(written(&common::longest()).len(), 267_366);
+    // The first chunk has no exception, the second one.
+    let form = written(&common::with_exceptions());
+    assert_eq!((form[7], form[10]), (0, 1));
     assert_eq!(bitmap::combined_room(&[], &[1, 0, 0, 0, 0xFF, 0xFF]), bitmap::LONGEST_FORM);
     assert_eq!(bitmap::combined_room(&[], &[1, 2, 3]), 6);
     for containers in [1, 2, 3, 5, 9, 31, 64, 255, 256, 257, 511, 513, 1_000] {

@@ -256,17 +256,22 @@ fn readings(last: [Field<'static>; 2]) -> Vec<Vec<Field<'static>>> {
 
 #[test]
 fn samples_and_padded_samples() {
-    for name in ["readings", "padded"] {
+    for (name, in_block, in_bucket) in [("readings", 16, 5), ("padded", 20, 17)] {
         let schema = Schema::new(&sample(&format!("{name}.schema"))).unwrap();
         let columns: Vec<_> = schema.columns().iter().map(|column| column.to_string()).collect();
         let expected = ["TIMESTAMP(3) NOT NULL", "SMALLINT", "FLOAT NOT NULL", "VARCHAR(10)"];
         assert_eq!(columns, expected);
         let block = sample(&format!("{name}.block"));
-        let rows: Vec<_> = Block::new(&schema, &block).unwrap().rows().collect();
+        let block = Block::new(&schema, &block).unwrap();
+        let rows: Vec<_> = block.rows().collect();
         assert_eq!(rows, readings([Field::Float(2.25), Field::Bytes(b"")]));
+        assert_eq!(block.page(0, 1).numbers()[9..], [u64::from(raw::PLACE), in_block, 5]);
         let bucket = sample(&format!("{name}.bucket"));
-        let rows: Vec<_> = Bucket::new(&schema, 3, &bucket).unwrap().rows().collect();
+        let bucket = Bucket::new(&schema, 3, &bucket).unwrap();
+        let rows: Vec<_> = bucket.rows().collect();
         assert_eq!(rows, readings([Field::Float(0.5), Field::Null]));
+        let place = bucket.page(3, 0, 1).unwrap();
+        assert_eq!(place.numbers(), [u64::from(raw::PLACE), in_bucket, 5]);
     }
 }
 
