@@ -46,7 +46,7 @@ pub struct Group {
     pub run_case: RunCase,
 }
 
-/// The groups whose calls are linked.
+/// All groups of cases.
 pub fn groups() -> Vec<Group> {
     vec![
         Group {
