@@ -2,28 +2,22 @@
 
 use crate::generate::Random;
 
-/// The sides of a call, which has the same name in every library.
-#[cfg_attr(not(feature = "standin"), allow(unused_macros))]
-macro_rules! sides {
-    ($call:ident as $type:ty) => {
-        $crate::bench::Sides::of($call as $type, stringify!($call))
-    };
+/// The call of an earlier library, of the same type as this library's.
+macro_rules! earlier {
+    ($call:ident as $type:ty) => {{
+        let _: $type = barcovento::raw::$call;
+        $crate::bench::earlier::call::<$type>(stringify!($call))
+    }};
 }
 
-#[cfg(feature = "combine")]
 mod combine;
 #[cfg(feature = "croaring")]
 mod croaring;
 mod earlier;
-#[cfg(feature = "numbers")]
 mod numbers;
-#[cfg(feature = "read")]
 mod read;
-#[cfg(feature = "store")]
 mod store;
-#[cfg(any(feature = "rows", feature = "buckets"))]
 mod tables;
-#[cfg(feature = "write")]
 mod write;
 
 /// One line of the table; times in seconds for one call.
@@ -47,27 +41,18 @@ pub struct Earlier {
     pub change: f64,
 }
 
-type Print<'a> = &'a mut dyn FnMut(Line);
+pub type Print<'a> = &'a mut dyn FnMut(Line);
 
-/// The groups whose calls are linked.
-pub fn groups() -> Vec<fn(Print)> {
-    vec![
-        #[cfg(feature = "read")]
-        read::run,
-        #[cfg(feature = "write")]
-        write::run,
-        #[cfg(feature = "combine")]
-        combine::run,
-        #[cfg(feature = "store")]
-        store::run,
-        #[cfg(feature = "numbers")]
-        numbers::run,
-        #[cfg(feature = "rows")]
-        tables::run_rows,
-        #[cfg(feature = "buckets")]
-        tables::run_buckets,
-    ]
-}
+/// What prints the lines of each group of calls.
+pub const GROUPS: [fn(Print); 7] = [
+    read::run,
+    write::run,
+    combine::run,
+    store::run,
+    numbers::run,
+    tables::run_rows,
+    tables::run_buckets,
+];
 
 const RUNS: usize = 41;
 /// Seconds that a run takes at least.
@@ -119,40 +104,15 @@ fn median(mut values: Vec<f64>) -> f64 {
     values[values.len() / 2]
 }
 
-/// A call of the library, and the same of an earlier one, if BV_BEFORE names a shared object of it.
-struct Sides<C> {
-    now: C,
-    before: Option<C>,
-}
+/// How many calls make a run, of the second program or of one library.
+type Task<C> = (u32, Option<Option<C>>);
 
-impl<C: Copy> Sides<C> {
-    fn of(now: C, name: &str) -> Sides<C> {
-        Sides { now, before: earlier::call(name) }
-    }
-
-    /// Without the earlier library unless it does what is measured.
-    #[cfg_attr(
-        not(any(feature = "store", feature = "rows", feature = "buckets")),
-        allow(dead_code)
-    )]
-    fn if_earlier(self, does: impl FnOnce(C) -> bool) -> Sides<C> {
-        Sides { before: self.before.filter(|&before| does(before)), ..self }
-    }
-}
-
-/// Measures all sides by turns, and which one begins by turns too.
-fn measure<C: Copy>(
-    call: &str,
-    input: &str,
-    sides: Sides<C>,
-    library: &mut dyn FnMut(C),
+/// The times of all tasks, which run by turns; which one begins goes by turns too.
+fn take_turns<C: Copy>(
+    tasks: &[Task<C>],
+    library: &mut dyn FnMut(Option<C>),
     reference: &mut dyn FnMut(),
-) -> Line {
-    let mut tasks =
-        vec![(calls(reference), None), (calls(&mut || library(sides.now)), Some(sides.now))];
-    if let Some(before) = sides.before {
-        tasks.push((calls(&mut || library(before)), Some(before)));
-    }
+) -> Vec<Vec<f64>> {
     let mut times = vec![Vec::new(); tasks.len()];
     let mut slow = false;
     for run in 0..RUNS {
@@ -170,8 +130,25 @@ fn measure<C: Copy>(
             times[task].push(time);
         }
     }
+    times
+}
+
+/// Measures all sides. `library` is called with nothing for the library that is linked, and otherwise with
+/// the earlier library's call.
+fn measure<C: Copy>(
+    call: &str,
+    input: &str,
+    earlier: Option<C>,
+    library: &mut dyn FnMut(Option<C>),
+    reference: &mut dyn FnMut(),
+) -> Line {
+    let mut tasks = vec![(calls(reference), None), (calls(&mut || library(None)), Some(None))];
+    if earlier.is_some() {
+        tasks.push((calls(&mut || library(earlier)), Some(earlier)));
+    }
+    let times = take_turns(&tasks, library, reference);
     // What the outputs then hold, which the callers look at, is the library's.
-    library(sides.now);
+    library(None);
     let ratio =
         |a: usize, b: usize| median(times[a].iter().zip(&times[b]).map(|(a, b)| a / b).collect());
     Line {
@@ -180,7 +157,7 @@ fn measure<C: Copy>(
         library: median(times[1].clone()),
         reference: median(times[0].clone()),
         ratio: ratio(1, 0),
-        earlier: sides.before.map(|_| Earlier {
+        earlier: earlier.map(|_| Earlier {
             time: median(times[2].clone()),
             ratio: ratio(2, 0),
             change: ratio(1, 2),

@@ -1,28 +1,18 @@
 //! The comparison of the library with the second program, case by case.
 
-#[cfg(any(feature = "rows", feature = "buckets"))]
 use crate::ffi::Called;
 use crate::generate::Random;
 use std::collections::BTreeMap;
 use std::fmt::Debug;
 
-#[cfg(feature = "read")]
 mod bitmap_read;
-#[cfg(feature = "write")]
 mod bitmap_write;
-#[cfg(feature = "buckets")]
 mod buckets;
-#[cfg(feature = "combine")]
 mod combine;
-#[cfg(feature = "numbers")]
 mod numbers;
-#[cfg(any(feature = "rows", feature = "buckets"))]
 mod pages;
-#[cfg(feature = "combine")]
 mod plans;
-#[cfg(feature = "rows")]
 mod rows;
-#[cfg(feature = "store")]
 mod store;
 
 /// How often each refusal number was reached; 0 stands for acceptance.
@@ -56,10 +46,9 @@ pub struct Group {
     pub run_case: RunCase,
 }
 
-/// The groups whose calls are linked.
+/// All groups of cases.
 pub fn groups() -> Vec<Group> {
     vec![
-        #[cfg(feature = "read")]
         Group {
             name: "bitmap_read",
             refusals: &[1, 2, 3, 4, 5, 6, 7, 8, 9, 10, 11],
@@ -67,7 +56,6 @@ pub fn groups() -> Vec<Group> {
             default_cases: 200_000,
             run_case: bitmap_read::run_case,
         },
-        #[cfg(feature = "write")]
         Group {
             name: "bitmap_write",
             refusals: &[12, 13],
@@ -75,7 +63,6 @@ pub fn groups() -> Vec<Group> {
             default_cases: 50_000,
             run_case: bitmap_write::run_case,
         },
-        #[cfg(feature = "combine")]
         Group {
             name: "combine",
             refusals: &[1, 2, 3, 4, 5, 6, 7, 8, 9, 10, 11, 13],
@@ -83,7 +70,6 @@ pub fn groups() -> Vec<Group> {
             default_cases: 50_000,
             run_case: combine::run_case,
         },
-        #[cfg(feature = "combine")]
         Group {
             name: "plans",
             refusals: &[13],
@@ -91,7 +77,6 @@ pub fn groups() -> Vec<Group> {
             default_cases: 10_000,
             run_case: plans::run_case,
         },
-        #[cfg(feature = "store")]
         Group {
             name: "store",
             refusals: &store::OUTCOMES,
@@ -99,7 +84,6 @@ pub fn groups() -> Vec<Group> {
             default_cases: 20_000,
             run_case: store::run_case,
         },
-        #[cfg(feature = "store")]
         Group {
             name: "replay",
             refusals: &store::replay::OUTCOMES,
@@ -107,7 +91,6 @@ pub fn groups() -> Vec<Group> {
             default_cases: 10_000,
             run_case: store::replay::run_case,
         },
-        #[cfg(feature = "numbers")]
         Group {
             name: "numbers",
             // No refusals: what was found.
@@ -116,7 +99,6 @@ pub fn groups() -> Vec<Group> {
             default_cases: 200_000,
             run_case: numbers::run_case,
         },
-        #[cfg(feature = "rows")]
         Group {
             name: "rows",
             refusals: &ROW_OUTCOMES,
@@ -124,7 +106,6 @@ pub fn groups() -> Vec<Group> {
             default_cases: 200_000,
             run_case: rows::run_case,
         },
-        #[cfg(feature = "buckets")]
         Group {
             name: "buckets",
             refusals: &BUCKET_OUTCOMES,
@@ -136,10 +117,8 @@ pub fn groups() -> Vec<Group> {
 }
 
 /// The refusals of check and field, then the outcomes of pages.
-#[cfg(feature = "rows")]
 const ROW_OUTCOMES: [u32; 12] = [20, 21, 22, 23, 24, 25, 100, 120, 121, 122, 123, 124];
 /// The refusals of check and field, then the outcomes of pages.
-#[cfg(feature = "buckets")]
 const BUCKET_OUTCOMES: [u32; 21] =
     [20, 25, 30, 31, 32, 33, 34, 35, 36, 37, 100, 120, 125, 130, 131, 132, 133, 134, 135, 136, 137];
 
@@ -198,14 +177,11 @@ fn same<T: Debug + PartialEq>(
     }
 }
 
-#[cfg(any(feature = "write", feature = "combine"))]
 const LONGEST_FORM: usize = 267_366;
 /// 01: "No written form is longer than 268,390 bytes".
-#[cfg(feature = "combine")]
 const ROOM_FOR_ALL: usize = 268_390;
 
 /// A room near the length of the form, or far from it.
-#[cfg(any(feature = "write", feature = "combine"))]
 fn room_around(random: &mut Random, length: usize) -> usize {
     match random.below(8) {
         0 => 0,
@@ -219,7 +195,6 @@ fn room_around(random: &mut Random, length: usize) -> usize {
 
 /// A room near the length of the form; or one so large that a combining call may write before it has
 /// counted the length, with bytes far behind the form that must stay.
-#[cfg(feature = "combine")]
 fn room_to_combine(random: &mut Random, length: usize) -> usize {
     match random.below(6) {
         0 => ROOM_FOR_ALL,
@@ -230,7 +205,6 @@ fn room_to_combine(random: &mut Random, length: usize) -> usize {
 }
 
 /// An answer, with the bytes of its places instead of the places.
-#[cfg(any(feature = "rows", feature = "buckets"))]
 fn by_bytes<A, B>(
     answer: Called<A>,
     by_bytes: impl FnOnce(A) -> Result<B, String>,
@@ -239,7 +213,6 @@ fn by_bytes<A, B>(
 }
 
 /// A row or column to ask for: mostly one of `count`, at times an absent one.
-#[cfg(any(feature = "rows", feature = "buckets"))]
 fn any_index(random: &mut Random, count: usize) -> u32 {
     match random.below(12) {
         0 => count as u32,

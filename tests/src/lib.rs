@@ -1,11 +1,13 @@
 //! The second program, and what compares it with the library.
 
-// Some of these three serves only groups that may not be linked.
-#[cfg_attr(not(feature = "standin"), allow(dead_code))]
+#[cfg(all(feature = "library", feature = "standin"))]
+compile_error!("the calls come either from the library or from the stand-in");
+
+#[cfg(feature = "calls")]
 pub mod bench;
-#[cfg_attr(not(feature = "standin"), allow(dead_code))]
+#[cfg(feature = "calls")]
 pub mod differential;
-#[cfg_attr(not(feature = "standin"), allow(dead_code))]
+#[cfg(feature = "calls")]
 pub mod ffi;
 pub mod generate;
 pub mod reference;

@@ -1,4 +1,19 @@
 //! The calls on bitmaps, each on slices: every one judges its bitmaps whole.
+//!
+//! ```
+//! use barcovento::bitmap::{self, Listing};
+//! let mut form = [0; 64];
+//! let length = bitmap::write(&[0, 34, 255], &mut form)?;
+//! let form = &form[..length];
+//! assert_eq!((bitmap::check(form)?, bitmap::probe(form, 34)?, bitmap::rank(form, 34)?), (3, true, 1));
+//!
+//! let (mut listing, mut list) = (Listing::default(), [0; 2]);
+//! assert_eq!(bitmap::page(form, &mut listing, &mut list)?, 2);
+//! assert_eq!((list, listing.finished), ([0, 34], false));
+//! assert_eq!(bitmap::page(form, &mut listing, &mut list)?, 1);
+//! assert_eq!((list[0], listing.finished), (255, true));
+//! # Ok::<(), barcovento::Refusal>(())
+//! ```
 
 use crate::raw;
 use crate::refusal::{settled, Fault, Refusal};
@@ -19,6 +34,7 @@ pub(crate) const fn form_room(containers: usize) -> usize {
 }
 
 /// The number of members.
+#[inline]
 pub fn check(bytes: &[u8]) -> Result<u32, Refusal> {
     let mut cardinality = 0;
     // SAFETY: the pointers are those of a slice and of a number, good for the call.
@@ -28,6 +44,7 @@ pub fn check(bytes: &[u8]) -> Result<u32, Refusal> {
 }
 
 /// Why the bitmap is refused; nothing if it is accepted.
+#[inline]
 pub fn explain(bytes: &[u8]) -> Option<Fault> {
     let mut fault = Fault { number: 0, index: 0, byte: 0, found: 0, wanted: 0 };
     // SAFETY: as in `check`; the five outputs are apart.
@@ -46,22 +63,33 @@ pub fn explain(bytes: &[u8]) -> Option<Fault> {
 }
 
 /// The outcome of a call on one bitmap that returned this status.
+#[inline]
 fn judged(status: u32, bytes: &[u8]) -> Result<(), Refusal> {
     judged_of(status, &[bytes])
 }
 
-/// The outcome of a call on bitmaps that returned this status: a refusal of a bitmap is that of the first
-/// one that has a fault.
+/// The outcome of a call on bitmaps that returned this status.
+#[inline]
 pub(crate) fn judged_of(status: u32, bitmaps: &[&[u8]]) -> Result<(), Refusal> {
-    if !(1..=11).contains(&status) {
-        return settled(status);
+    match status {
+        0 => Ok(()),
+        number => Err(refused(number, bitmaps)),
     }
-    let refused =
+}
+
+/// The refusal of a call on bitmaps: that of a bitmap is of the first one that has a fault.
+#[cold]
+fn refused(number: u32, bitmaps: &[&[u8]]) -> Refusal {
+    if !(1..=11).contains(&number) {
+        return Refusal::new(number);
+    }
+    let of_bitmap =
         |(input, bytes): (usize, &&[u8])| Some(Refusal::of_bitmap(explain(bytes)?, input));
-    Err(bitmaps.iter().enumerate().find_map(refused).unwrap_or(Refusal::new(status)))
+    bitmaps.iter().enumerate().find_map(of_bitmap).unwrap_or(Refusal::new(number))
 }
 
 /// Whether the position is a member.
+#[inline]
 pub fn probe(bytes: &[u8], position: u32) -> Result<bool, Refusal> {
     let mut member = 0;
     // SAFETY: as in `check`.
@@ -72,6 +100,7 @@ pub fn probe(bytes: &[u8], position: u32) -> Result<bool, Refusal> {
 }
 
 /// How many members lie below the position.
+#[inline]
 pub fn rank(bytes: &[u8], position: u32) -> Result<u32, Refusal> {
     let mut below = 0;
     // SAFETY: as in `check`.
@@ -90,6 +119,7 @@ pub struct Listing {
 }
 
 /// The next members into the list, as many as it takes: how many. The listing steps on.
+#[inline]
 pub fn page(bytes: &[u8], listing: &mut Listing, list: &mut [u32]) -> Result<usize, Refusal> {
     let (mut given, mut finished) = (0, u8::from(listing.finished));
     // SAFETY: as in `check`; the list is lent for as many numbers as it has.
@@ -110,6 +140,7 @@ pub fn page(bytes: &[u8], listing: &mut Listing, list: &mut [u32]) -> Result<usi
 }
 
 /// The one written form of strictly rising positions into the output: its length. Refusals 12, 13.
+#[inline]
 pub fn write(positions: &[u32], out: &mut [u8]) -> Result<usize, Refusal> {
     let mut length = 0;
     // SAFETY: the pointers are those of two slices, which are apart, and of a number.
@@ -152,6 +183,7 @@ impl Operation {
 }
 
 /// The one written form of the combined set into the output: its length. Refusals 1 to 11 of a, of b, 13.
+#[inline]
 pub fn combine(operation: Operation, a: &[u8], b: &[u8], out: &mut [u8]) -> Result<usize, Refusal> {
     let mut length = 0;
     // SAFETY: the pointers are those of slices; the output is apart from all else.

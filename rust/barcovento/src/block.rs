@@ -9,6 +9,20 @@ use crate::schema::Schema;
 const PAGE: usize = 1 << 20;
 
 /// A block that a schema accepts.
+///
+/// Every call judges the whole block again. So many fields are read faster by [`rows`](Block::rows) or by
+/// few and long pages than one by one.
+///
+/// ```
+/// use barcovento::{Block, Field, Schema};
+/// let schema = Schema::new(&[1, 3, 0])?;
+/// let bytes = [0, 5, 0, 0, 0, 0, 255, 255, 255, 255, 0, 0, 0, 0, 5, 0, 0, 0, 2, 0, 0, 0];
+/// let block = Block::new(&schema, &bytes)?;
+/// assert_eq!(block.field(1, 0)?, Field::Whole(-1));
+/// let rows: Vec<_> = block.rows().collect();
+/// assert_eq!(rows, [[Field::Whole(5)], [Field::Whole(-1)]]);
+/// # Ok::<(), barcovento::Refusal>(())
+/// ```
 #[derive(Clone, Copy, Debug)]
 pub struct Block<'a> {
     schema: &'a Schema,

@@ -10,6 +10,19 @@ use crate::schema::Schema;
 const PAGES: usize = 1 << 22;
 
 /// A bucket that a schema and a number of rows accept.
+///
+/// Every call judges the whole bucket again. So many fields are read faster by [`rows`](Bucket::rows) or by
+/// few and long pages than one by one.
+///
+/// ```
+/// use barcovento::{Bucket, Field, Schema};
+/// let schema = Schema::new(&[1, 1, 0])?;
+/// let bucket = Bucket::new(&schema, 3, &[1, 0, 2, 0, 2, 1, 2, 2])?;
+/// assert_eq!(bucket.field(2, 0)?, Field::Whole(1));
+/// let page = bucket.page(0, 1, 2)?;
+/// assert_eq!([page.field(0, 0), page.field(1, 0)], [Field::Whole(2), Field::Whole(1)]);
+/// # Ok::<(), barcovento::Refusal>(())
+/// ```
 #[derive(Clone, Copy, Debug)]
 pub struct Bucket<'a> {
     schema: &'a Schema,

@@ -21,6 +21,14 @@ pub enum Number {
 }
 
 /// The number at the front of the bytes; what follows it is not looked at.
+///
+/// ```
+/// use barcovento::number::{read, Number};
+/// let five = [0x85, 0x80, 0x80, 0x80, 0x00];
+/// assert_eq!(read(&five), Number::Found { value: 5, used: 5, shortest: false });
+/// assert_eq!(read(&five[..2]), Number::CutShort);
+/// ```
+#[inline]
 pub fn read(bytes: &[u8]) -> Number {
     let (mut found, mut value, mut used, mut shortest) = (0, 0, 0, 0);
     // SAFETY: the pointers are those of a slice and of four numbers, good for the call.

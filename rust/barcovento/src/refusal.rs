@@ -143,6 +143,7 @@ impl fmt::Display for Refusal {
 impl Error for Refusal {}
 
 /// The outcome of a call that returned this status.
+#[inline]
 pub(crate) fn settled(status: u32) -> Result<(), Refusal> {
     match status {
         0 => Ok(()),

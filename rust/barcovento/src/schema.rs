@@ -93,6 +93,14 @@ impl fmt::Display for Column {
 }
 
 /// The columns of a schema, and its bytes.
+///
+/// ```
+/// use barcovento::Schema;
+/// let schema = Schema::new(&[2, 3, 0, 14, 1, 10, 2])?;
+/// let columns: Vec<_> = schema.columns().iter().map(|column| column.to_string()).collect();
+/// assert_eq!(columns, ["INT NOT NULL", "DECIMAL(10,2)"]);
+/// # Ok::<(), barcovento::Refusal>(())
+/// ```
 #[derive(Clone, Debug, PartialEq, Eq, Hash)]
 pub struct Schema {
     bytes: Vec<u8>,

@@ -13,6 +13,18 @@ const SLOTS: u32 = 64;
 ///
 /// Owner 0 has slots 0 to 31 and the buffer's first half, owner 1 slots 32 to 63 and the second half. What
 /// one owner does never changes what the other finds.
+///
+/// ```
+/// use barcovento::{Bitmap, Store};
+/// let zone = Bitmap::from_positions(&[0, 34, 255])?;
+/// let mut store = Store::new(1_000);
+/// store.put(0, 7, zone.as_bytes())?;
+/// assert_eq!(store.put(1, 7, zone.as_bytes()).unwrap_err().number(), 44);
+/// let saved = store.save();
+/// assert_eq!(saved.len(), 64 + 12);
+/// assert_eq!(Store::load(&saved, 24)?.fetch(0, 7)?, zone);
+/// # Ok::<(), barcovento::Refusal>(())
+/// ```
 #[derive(Clone)]
 pub struct Store {
     buffer: Vec<u8>,
@@ -34,19 +46,25 @@ impl Store {
     /// The store that was saved as these bytes, in a buffer of this many bytes. Refusal 42.
     pub fn load(saved: &[u8], room: usize) -> Result<Store, Refusal> {
         let mut store = Store::new(room);
+        store.reload(saved)?;
+        Ok(store)
+    }
+
+    /// Each slot holds its entry of the saved bytes, in place of what it held, in the same buffer.
+    /// Refusal 42.
+    pub fn reload(&mut self, saved: &[u8]) -> Result<(), Refusal> {
         // SAFETY: the pointers are those of three slices, which are apart.
         let status = unsafe {
             raw::bv_store_load(
-                store.buffer.as_mut_ptr(),
-                store.buffer.len(),
-                store.directory.as_mut_ptr(),
-                store.directory.len(),
+                self.buffer.as_mut_ptr(),
+                self.buffer.len(),
+                self.directory.as_mut_ptr(),
+                self.directory.len(),
                 saved.as_ptr(),
                 saved.len(),
             )
         };
-        settled(status)?;
-        Ok(store)
+        settled(status)
     }
 
     /// How many bytes the buffer has: each owner has half of them.

@@ -1,9 +1,11 @@
 //! The four set operations, bytes to bytes.
 
-use super::{form, measure, random_set, Line, Print, Sides};
-use crate::ffi::combine::{call, Call};
+use super::{earlier, form, measure, random_set, Line, Print};
+use crate::ffi::combine::named;
 use crate::generate::Random;
 use crate::reference::bitmap::{self as reference, Operation, OPERATIONS};
+use barcovento::bitmap;
+use barcovento::raw::Combine;
 use std::hint::black_box;
 
 pub fn run(print: Print) {
@@ -26,15 +28,20 @@ pub fn run(print: Print) {
 
 fn line(operation: Operation, name: &str, first: &[u32], second: &[u32]) -> Line {
     let (a, b) = (form(first), form(second));
-    let sides = Sides::of(call(operation), symbol(operation));
+    let before = earlier::call::<Combine>(symbol(operation));
     let (mut out, mut expected) = (vec![0; 267_366], vec![0; 267_366]);
     let length = reference::combine(operation, &a, &b, &mut expected).expect("room for all");
     #[allow(unused_mut)]
     let mut line = measure(
         &format!("{operation:?}"),
         name,
-        sides,
-        &mut |call| combine(call, &a, &b, &mut out),
+        before,
+        &mut |call| match call {
+            None => {
+                black_box(bitmap::combine(named(operation), &a, &b, &mut out).ok());
+            }
+            Some(call) => combine(call, &a, &b, &mut out),
+        },
         &mut || {
             black_box(reference::combine(operation, &a, &b, &mut expected)).ok();
         },
@@ -56,7 +63,8 @@ fn symbol(operation: Operation) -> &'static str {
     }
 }
 
-fn combine(call: Call, a: &[u8], b: &[u8], out: &mut [u8]) {
+/// The earlier library's.
+fn combine(call: Combine, a: &[u8], b: &[u8], out: &mut [u8]) {
     let mut length = 0;
     let code = unsafe {
         call(a.as_ptr(), a.len(), b.as_ptr(), b.len(), out.as_mut_ptr(), out.len(), &mut length)

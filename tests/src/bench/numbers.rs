@@ -1,10 +1,11 @@
 //! Reading numbers in groups of seven bits, one after the other.
 
 use super::{measure, Print};
-use crate::ffi::numbers::{bv_number_read, Read};
+use crate::ffi::numbers::Read;
 use crate::generate::numbers::{fewest, push_form};
 use crate::generate::Random;
 use crate::reference::varint;
+use barcovento::number::{self, Number};
 use std::hint::black_box;
 use std::slice::from_raw_parts;
 
@@ -28,34 +29,56 @@ pub fn run(print: Print) {
     for (name, five_bytes) in [("1 to 5 bytes", false), ("padded to 5 bytes", true)] {
         let bytes = numbers(five_bytes);
         let input = format!("100,000 numbers, {name}");
-        let sides = sides!(bv_number_read as Call);
+        let before = earlier!(bv_number_read as Call);
         let (mut first, mut second) = (0, 0);
         print(measure(
             "number read",
             &input,
-            sides,
-            &mut |call| first = sum(call, &bytes),
-            &mut || second = sum(black_box(reference_read as Call), &bytes),
+            before,
+            &mut |call| {
+                first = match call {
+                    None => sum(&bytes, wrapped),
+                    Some(call) => sum(&bytes, |rest| called(call, rest)),
+                }
+            },
+            &mut || {
+                let call = black_box(reference_read as Call);
+                second = sum(&bytes, |rest| called(call, rest));
+            },
         ));
         assert_eq!(first, second);
     }
 }
 
-/// The sum of the numbers that stand one after the other.
-fn sum(call: Call, bytes: &[u8]) -> u64 {
+/// The sum of the numbers that stand one after the other, each read with the number of its bytes.
+fn sum(bytes: &[u8], read: impl Fn(&[u8]) -> (u32, u32)) -> u64 {
     let (mut sum, mut place) = (0, 0);
     while place < bytes.len() {
-        let rest = &bytes[place..];
-        let (mut found, mut value, mut used, mut shortest) = (0, 0, 0, 0);
-        let code = unsafe {
-            call(rest.as_ptr(), rest.len(), &mut found, &mut value, &mut used, &mut shortest)
-        };
-        black_box((code, found, shortest));
+        let (value, used) = read(&bytes[place..]);
         sum += u64::from(value);
         // A call that reads nothing must not stay here for ever.
         place += used.max(1) as usize;
     }
     sum
+}
+
+fn wrapped(bytes: &[u8]) -> (u32, u32) {
+    match number::read(bytes) {
+        Number::Found { value, used, shortest } => {
+            black_box(shortest);
+            (value, used)
+        }
+        Number::CutShort | Number::IllFormed => (0, 0),
+    }
+}
+
+fn called(call: Call, bytes: &[u8]) -> (u32, u32) {
+    let (mut found, mut value, mut used, mut shortest) = (0, 0, 0, 0);
+    let code = unsafe {
+        call(bytes.as_ptr(), bytes.len(), &mut found, &mut value, &mut used, &mut shortest)
+    };
+    black_box((code, found, shortest));
+    (value, used)
 }
 
 /// The second program, called as the library is.

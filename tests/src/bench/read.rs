@@ -1,11 +1,9 @@
 //! Check, explain, probe, rank and a full listing.
 
 use super::{bitmaps, form, measure, Line, Print};
-use crate::ffi::read::{
-    bv_bitmap_check, bv_bitmap_explain, bv_bitmap_page, bv_bitmap_probe, bv_bitmap_rank,
-};
 use crate::reference::bitmap as reference;
 use crate::reference::bitmap::explain as reference_explain;
+use barcovento::bitmap::{self, Listing};
 use std::hint::black_box;
 
 type Check = unsafe extern "C" fn(*const u8, usize, *mut u32) -> u32;
@@ -27,8 +25,8 @@ pub fn run(print: Print) {
     for (name, set) in bitmaps() {
         let bytes = form(&set);
         let bytes = bytes.as_slice();
-        let sides = sides!(bv_bitmap_check as Check);
-        print(measure("check", name, sides, &mut |call| check(call, bytes), &mut || {
+        let before = earlier!(bv_bitmap_check as Check);
+        print(measure("check", name, before, &mut |call| check(call, bytes), &mut || {
             black_box(reference::check(black_box(bytes))).ok();
         }));
         print(explain_line("explain", name, bytes));
@@ -36,18 +34,24 @@ pub fn run(print: Print) {
         refused[1] ^= 1;
         print(explain_line("explain, refused 11", name, &refused));
         let position = set[set.len() / 2];
-        let sides = sides!(bv_bitmap_probe as Probe);
-        print(measure("probe", name, sides, &mut |call| probe(call, bytes, position), &mut || {
-            black_box(reference::probe(black_box(bytes), position)).ok();
-        }));
-        let sides = sides!(bv_bitmap_rank as Rank);
-        print(measure("rank", name, sides, &mut |call| rank(call, bytes, position), &mut || {
+        let before = earlier!(bv_bitmap_probe as Probe);
+        print(measure(
+            "probe",
+            name,
+            before,
+            &mut |call| probe(call, bytes, position),
+            &mut || {
+                black_box(reference::probe(black_box(bytes), position)).ok();
+            },
+        ));
+        let before = earlier!(bv_bitmap_rank as Rank);
+        print(measure("rank", name, before, &mut |call| rank(call, bytes, position), &mut || {
             black_box(reference::rank(black_box(bytes), position)).ok();
         }));
         let (mut first, mut second) = (vec![0; set.len()], vec![0; set.len()]);
-        let sides = sides!(bv_bitmap_page as Page);
+        let before = earlier!(bv_bitmap_page as Page);
         let listing = &mut |call| list(call, bytes, &mut first);
-        print(measure("full listing", name, sides, listing, &mut || {
+        print(measure("full listing", name, before, listing, &mut || {
             black_box(reference::page(black_box(bytes), 0, false, &mut second)).ok();
         }));
         assert_eq!(first, set);
@@ -56,13 +60,17 @@ pub fn run(print: Print) {
 }
 
 fn explain_line(name: &str, input: &str, bytes: &[u8]) -> Line {
-    let sides = sides!(bv_bitmap_explain as Explain);
-    measure(name, input, sides, &mut |call| explain(call, bytes), &mut || {
+    let before = earlier!(bv_bitmap_explain as Explain);
+    measure(name, input, before, &mut |call| explain(call, bytes), &mut || {
         black_box(reference_explain::explain(black_box(bytes)));
     })
 }
 
-fn explain(call: Explain, bytes: &[u8]) {
+fn explain(earlier: Option<Explain>, bytes: &[u8]) {
+    let Some(call) = earlier else {
+        black_box(bitmap::explain(bytes));
+        return;
+    };
     let (mut number, mut index, mut byte, mut found, mut wanted) = (0, 0, 0, 0, 0);
     let code = unsafe {
         call(
@@ -78,25 +86,41 @@ fn explain(call: Explain, bytes: &[u8]) {
     black_box((code, number, index, byte, found, wanted));
 }
 
-fn check(call: Check, bytes: &[u8]) {
+fn check(earlier: Option<Check>, bytes: &[u8]) {
+    let Some(call) = earlier else {
+        black_box(bitmap::check(bytes).ok());
+        return;
+    };
     let mut cardinality = 0;
     let code = unsafe { call(bytes.as_ptr(), bytes.len(), &mut cardinality) };
     black_box((code, cardinality));
 }
 
-fn probe(call: Probe, bytes: &[u8], position: u32) {
+fn probe(earlier: Option<Probe>, bytes: &[u8], position: u32) {
+    let Some(call) = earlier else {
+        black_box(bitmap::probe(bytes, position).ok());
+        return;
+    };
     let mut member = 0;
     let code = unsafe { call(bytes.as_ptr(), bytes.len(), position, &mut member) };
     black_box((code, member));
 }
 
-fn rank(call: Rank, bytes: &[u8], position: u32) {
+fn rank(earlier: Option<Rank>, bytes: &[u8], position: u32) {
+    let Some(call) = earlier else {
+        black_box(bitmap::rank(bytes, position).ok());
+        return;
+    };
     let mut below = 0;
     let code = unsafe { call(bytes.as_ptr(), bytes.len(), position, &mut below) };
     black_box((code, below));
 }
 
-fn list(call: Page, bytes: &[u8], list: &mut [u32]) {
+fn list(earlier: Option<Page>, bytes: &[u8], list: &mut [u32]) {
+    let Some(call) = earlier else {
+        black_box(bitmap::page(bytes, &mut Listing::default(), list).ok());
+        return;
+    };
     let (mut place, mut finished, mut given) = (0, 0, 0);
     let code = unsafe {
         call(

@@ -1,12 +1,10 @@
 //! Calls on a store of 64 masks, 32 of each owner, in a buffer without a spare byte.
 
-use super::{earlier, form, measure, random_set, Line, Print, Sides};
-use crate::ffi::store::{
-    bv_store_drop, bv_store_fetch, bv_store_load, bv_store_put, bv_store_save,
-};
+use super::{earlier, form, measure, random_set, Line, Print};
 use crate::generate::store::{own_slots, saved, total, Entries, Store, OWN_SLOTS, SLOTS};
 use crate::generate::Random;
 use crate::reference::store as reference;
+use barcovento::{bitmap, raw, Store as Wrapped};
 use std::hint::black_box;
 use std::sync::OnceLock;
 
@@ -43,15 +41,14 @@ pub fn run(print: Print) {
         for line in lines {
             print(line(&bench));
         }
-        #[cfg(feature = "read")]
         print(judge_line(&bench));
     }
 }
 
-/// The sides of a call, without an earlier library whose stores have no halves.
-fn halved<C: Copy>(sides: Sides<C>) -> Sides<C> {
+/// The call of an earlier library, unless its stores have no halves.
+fn halved<C: Copy>(call: Option<C>) -> Option<C> {
     static HALVES: OnceLock<bool> = OnceLock::new();
-    sides.if_earlier(|_| *HALVES.get_or_init(earlier_has_halves))
+    call.filter(|_| *HALVES.get_or_init(earlier_has_halves))
 }
 
 /// Whether the earlier library saves a store of two forms, each at the start of its half.
@@ -101,19 +98,31 @@ impl Bench {
         }
         store
     }
+
+    /// The same full store, as the wrapper holds it.
+    fn wrapped(&self) -> Wrapped {
+        Wrapped::load(&saved(&self.entries), total(&self.entries)).expect("a sound store")
+    }
 }
 
-/// Into an empty slot. Its length is set to 0 by hand before each call, which is what drop does.
+/// What the slots of a store of the wrapper's hold.
+fn held(store: &Wrapped) -> Entries {
+    let form = |slot| store.fetch(Wrapped::owner_of(slot), slot).map(|held| held.into_bytes());
+    (0..Wrapped::SLOTS).map(|slot| form(slot).unwrap_or_default()).collect()
+}
+
+/// Into an empty slot. Its length is set to 0 by hand before each call, which is what drop does, so it is the
+/// C call that is measured.
 fn put_line(bench: &Bench) -> Line {
     let (mut first, mut second) = (bench.store(), bench.store());
     let mask = &bench.entries[SLOT];
     let line = measure(
         "store put, slot empty",
         &bench.input(),
-        halved(sides!(bv_store_put as Put)),
+        halved(earlier!(bv_store_put as Put)),
         &mut |call| {
             first.directory[2 * SLOT + 1] = 0;
-            put(call, &mut first, SLOT, mask);
+            put(call.unwrap_or(raw::bv_store_put), &mut first, SLOT, mask);
         },
         &mut || {
             second.directory[2 * SLOT + 1] = 0;
@@ -126,25 +135,26 @@ fn put_line(bench: &Bench) -> Line {
 
 /// A form of the same length in place of the other, by turns.
 fn replace_line(bench: &Bench) -> Line {
-    let (mut first, mut second) = (bench.store(), bench.store());
+    let (mut first, mut before, mut second) = (bench.wrapped(), bench.store(), bench.store());
     let masks = [&bench.moved, &bench.entries[SLOT]];
     assert_eq!(masks[0].len(), masks[1].len());
-    let (mut turn, mut second_turn) = (0, 0);
+    let turns = masks.into_iter().cycle();
+    let (mut turn, mut before_turn, mut second_turn) = (turns.clone(), turns.clone(), turns);
     let line = measure(
         "store put, same length replaced",
         &bench.input(),
-        halved(sides!(bv_store_put as Put)),
-        &mut |call| {
-            put(call, &mut first, SLOT, masks[turn % 2]);
-            turn += 1;
+        halved(earlier!(bv_store_put as Put)),
+        &mut |call| match call {
+            None => put_wrapped(&mut first, SLOT, turn.next().expect("no end")),
+            Some(call) => put(call, &mut before, SLOT, before_turn.next().expect("no end")),
         },
-        &mut || {
-            put_second(&mut second, SLOT, masks[second_turn % 2]);
-            second_turn += 1;
-        },
+        &mut || put_second(&mut second, SLOT, second_turn.next().expect("no end")),
     );
-    put_second(&mut second, SLOT, masks[(turn + 1) % 2]);
-    assert!(first.entries() == second.entries());
+    // The next one is not the one that the slot holds.
+    assert!(turn.next() != Some(&held(&first)[SLOT]));
+    put_wrapped(&mut first, SLOT, masks[0]);
+    put_second(&mut second, SLOT, masks[0]);
+    assert!(Ok(held(&first)) == second.entries());
     line
 }
 
@@ -157,25 +167,27 @@ fn swap_line(bench: &Bench) -> Line {
     entries[small_slot(0)] = small.clone();
     entries[small_slot(0) - OWN_SLOTS] = small.clone();
     let bench = Bench { name: bench.name, entries, moved: Vec::new() };
-    let (mut first, mut second) = (bench.store(), bench.store());
-    let (mut turn, mut second_turn) = (0, 0);
+    let (mut first, mut before, mut second) = (bench.wrapped(), bench.store(), bench.store());
+    let (mut turn, mut before_turn, mut second_turn) = (0, 0, 0);
+    let swap = |turn: &mut usize, put: &mut dyn FnMut(usize, &[u8])| {
+        put(small_slot(*turn + 1), &small);
+        put(small_slot(*turn), &large);
+        *turn += 1;
+    };
     let line = measure(
         "store put twice, large by small, small by large",
         &bench.input(),
-        halved(sides!(bv_store_put as Put)),
-        &mut |call| {
-            put(call, &mut first, small_slot(turn + 1), &small);
-            put(call, &mut first, small_slot(turn), &large);
-            turn += 1;
+        halved(earlier!(bv_store_put as Put)),
+        &mut |call| match call {
+            None => swap(&mut turn, &mut |slot, mask| put_wrapped(&mut first, slot, mask)),
+            Some(call) => {
+                swap(&mut before_turn, &mut |slot, mask| put(call, &mut before, slot, mask))
+            }
         },
-        &mut || {
-            put_second(&mut second, small_slot(second_turn + 1), &small);
-            put_second(&mut second, small_slot(second_turn), &large);
-            second_turn += 1;
-        },
+        &mut || swap(&mut second_turn, &mut |slot, mask| put_second(&mut second, slot, mask)),
     );
-    for (store, turn) in [(first, turn), (second, second_turn)] {
-        let entries = store.entries().expect("a sound store");
+    let second = second.entries().expect("a sound store");
+    for (entries, turn) in [(held(&first), turn), (second, second_turn)] {
         let held = |slot| if slot == small_slot(turn) { &small } else { &large };
         assert!(own_slots(1).all(|slot| entries[slot] == *held(slot)));
     }
@@ -185,6 +197,10 @@ fn swap_line(bench: &Bench) -> Line {
 /// The slot that holds {0}: all slots of the owner in turn, far from each other.
 fn small_slot(turn: usize) -> usize {
     own_slots(1).start + (turn * 11 + SLOT) % OWN_SLOTS
+}
+
+fn put_wrapped(store: &mut Wrapped, slot: usize, mask: &[u8]) {
+    assert_eq!(store.put(OWNER, slot as u32, mask), Ok(()));
 }
 
 fn put(call: Put, store: &mut Store, slot: usize, mask: &[u8]) {
@@ -210,15 +226,18 @@ fn put_second(store: &mut Store, slot: usize, mask: &[u8]) {
 }
 
 fn fetch_line(bench: &Bench) -> Line {
-    let store = bench.store();
+    let (wrapped, store) = (bench.wrapped(), bench.store());
     let Store { buffer, directory } = &store;
     let length = bench.entries[SLOT].len();
     let (mut first, mut second) = (vec![0; length], vec![0; length]);
     let line = measure(
         "store fetch",
         &bench.input(),
-        halved(sides!(bv_store_fetch as Fetch)),
-        &mut |call| assert_eq!(fetch(call, &store, SLOT, &mut first), 0),
+        halved(earlier!(bv_store_fetch as Fetch)),
+        &mut |call| match call {
+            None => assert_eq!(wrapped.fetch_into(OWNER, SLOT as u32, &mut first), Ok(length)),
+            Some(call) => assert_eq!(fetch(call, &store, SLOT, &mut first), 0),
+        },
         &mut || {
             let buffer = black_box(buffer);
             black_box(reference::fetch(buffer, directory, OWNER, SLOT as u32, &mut second)).ok();
@@ -248,15 +267,16 @@ fn fetch(call: Fetch, store: &Store, slot: usize, out: &mut [u8]) -> u32 {
     code
 }
 
-/// The slot's length is set again by hand before each call.
+/// The slot's length is set again by hand before each call, so it is the C call that is measured.
 fn drop_line(bench: &Bench) -> Line {
     let length = bench.entries[SLOT].len() as u32;
     let (mut first, mut second) = (bench.store(), bench.store());
     let line = measure(
         "store drop",
         &bench.input(),
-        halved(sides!(bv_store_drop as Drop)),
+        halved(earlier!(bv_store_drop as Drop)),
         &mut |call| {
+            let call = call.unwrap_or(raw::bv_store_drop);
             first.directory[2 * SLOT + 1] = length;
             let (buffer, directory) = (&first.buffer, &mut first.directory);
             let (numbers, to) = (directory.len(), directory.as_mut_ptr());
@@ -275,74 +295,84 @@ fn drop_line(bench: &Bench) -> Line {
 }
 
 fn save_line(bench: &Bench) -> Line {
-    let Store { buffer, directory } = bench.store();
+    let (wrapped, store) = (bench.wrapped(), bench.store());
     let expected = saved(&bench.entries);
-    let (mut first, mut second) = (vec![0; expected.len()], vec![0; expected.len()]);
+    let length = expected.len();
+    let (mut first, mut second) = (vec![0; length], vec![0; length]);
     let line = measure(
         "store save",
         &bench.input(),
-        halved(sides!(bv_store_save as Save)),
-        &mut |call| {
-            let (mut length, out) = (0, first.as_mut_ptr());
-            let (from, numbers) = (directory.as_ptr(), directory.len());
-            let code = unsafe {
-                call(buffer.as_ptr(), buffer.len(), from, numbers, out, first.len(), &mut length)
-            };
-            assert_eq!((code, length), (0, first.len()));
+        halved(earlier!(bv_store_save as Save)),
+        &mut |call| match call {
+            None => assert_eq!(wrapped.save_into(&mut first), Ok(length)),
+            Some(call) => assert_eq!(save(call, &store, &mut first), (0, length)),
         },
         &mut || {
-            black_box(reference::save(black_box(&buffer), &directory, &mut second)).ok();
+            let Store { buffer, directory } = black_box(&store);
+            black_box(reference::save(buffer, directory, &mut second)).ok();
         },
     );
     assert!(first == expected && second == expected);
     line
 }
 
+fn save(call: Save, store: &Store, out: &mut [u8]) -> (u32, usize) {
+    let Store { buffer, directory } = store;
+    let (from, numbers) = (directory.as_ptr(), directory.len());
+    let (to, room, mut length) = (out.as_mut_ptr(), out.len(), 0);
+    let code = unsafe { call(buffer.as_ptr(), buffer.len(), from, numbers, to, room, &mut length) };
+    (code, length)
+}
+
 fn load_line(bench: &Bench) -> Line {
     let saved = saved(&bench.entries);
     let length = total(&bench.entries);
-    let (mut first, mut second) = (Store::empty(length), Store::empty(length));
+    let mut first = Wrapped::new(length);
+    let (mut before, mut second) = (Store::empty(length), Store::empty(length));
     let line = measure(
         "store load",
         &bench.input(),
-        halved(sides!(bv_store_load as Load)),
-        &mut |call| {
-            let Store { buffer, directory } = &mut first;
-            let (to, numbers) = (directory.as_mut_ptr(), directory.len());
-            let code = unsafe {
-                call(buffer.as_mut_ptr(), length, to, numbers, saved.as_ptr(), saved.len())
-            };
-            assert_eq!(code, 0);
+        halved(earlier!(bv_store_load as Load)),
+        &mut |call| match call {
+            None => assert_eq!(first.reload(&saved), Ok(())),
+            Some(call) => assert_eq!(load(call, &mut before, &saved), 0),
         },
         &mut || {
             let Store { buffer, directory } = &mut second;
             assert_eq!(reference::load(buffer, directory, black_box(&saved)), Ok(()));
         },
     );
-    assert!(first.entries().as_ref() == Ok(&bench.entries) && first.entries() == second.entries());
+    assert!(held(&first) == bench.entries && second.entries().as_ref() == Ok(&bench.entries));
     line
+}
+
+fn load(call: Load, store: &mut Store, saved: &[u8]) -> u32 {
+    let Store { buffer, directory } = store;
+    let (to, numbers) = (directory.as_mut_ptr(), directory.len());
+    unsafe { call(buffer.as_mut_ptr(), buffer.len(), to, numbers, saved.as_ptr(), saved.len()) }
 }
 
 /// A fetch without room, which does nothing but judge the owner's forms; in the second program's column
 /// the same library's 32 checks of them, one by one.
-#[cfg(feature = "read")]
 fn judge_line(bench: &Bench) -> Line {
-    use crate::ffi::read::bv_bitmap_check;
-
-    let store = bench.store();
+    let (wrapped, store) = (bench.wrapped(), bench.store());
     let half = store.own_bytes(OWNER as usize);
     measure(
         "store judged, by 32 checks of the library",
         &bench.input(),
-        halved(sides!(bv_store_fetch as Fetch)),
-        &mut |call| assert_eq!(fetch(call, &store, SLOT, &mut []), 13),
+        halved(earlier!(bv_store_fetch as Fetch)),
+        &mut |call| {
+            let number = match call {
+                None => wrapped.fetch_into(OWNER, SLOT as u32, &mut []).unwrap_err().number(),
+                Some(call) => fetch(call, &store, SLOT, &mut []),
+            };
+            assert_eq!(number, 13);
+        },
         &mut || {
             for slot in own_slots(OWNER as usize) {
                 let (start, length) = store.place(slot);
                 let form = &half[start as usize..][..length as usize];
-                let mut cardinality = 0;
-                let code = unsafe { bv_bitmap_check(form.as_ptr(), form.len(), &mut cardinality) };
-                assert_eq!(black_box((code, cardinality)).0, 0);
+                assert!(black_box(bitmap::check(form)).is_ok());
             }
         },
     )

@@ -6,14 +6,10 @@ use crate::generate::schema::every_type;
 use crate::reference::schema::Column;
 use std::hint::black_box;
 
-#[cfg(feature = "buckets")]
 mod buckets;
-#[cfg(feature = "rows")]
 mod rows;
 
-#[cfg(feature = "buckets")]
 pub use buckets::run as run_buckets;
-#[cfg(feature = "rows")]
 pub use rows::run as run_rows;
 
 /// Columns of all types, every second one nullable.
@@ -37,7 +33,7 @@ type Written = (&'static str, fn() -> Numbers);
 const SHORTEST: Written = ("", Numbers::shortest);
 const PADDED: Written = (", every number in 5 bytes", Numbers::five_bytes);
 
-fn ask_all(rows: u32, columns: u32, ask: &dyn Fn(u32, u32) -> Option<Field>) {
+fn ask_all<T>(rows: u32, columns: u32, ask: impl Fn(u32, u32) -> T) {
     for row in 0..rows {
         for column in 0..columns {
             black_box(ask(row, column));

@@ -1,9 +1,9 @@
 //! The library's time as a ratio of the second program's, in the same run. Prints a markdown table.
 //!
-//! Each line is the median of several runs in which the two sides take turns. Outputs are allocated
-//! before the measurement and are not cleared between calls.
+//! Each line is the median of several runs in which the two sides take turns. The library is called by its
+//! wrapper for Rust. Outputs are allocated before the measurement and are not cleared between calls.
 
-use second_program::bench::{groups, Line};
+use second_program::bench::{Line, GROUPS};
 
 fn time(seconds: f64) -> String {
     match seconds {
@@ -58,7 +58,7 @@ fn main() {
     }
     println!("| {} |", names.join(" | "));
     println!("|{}", "---|".repeat(names.len()));
-    for group in groups() {
+    for group in GROUPS {
         group(&mut |line| print(&line));
     }
 }

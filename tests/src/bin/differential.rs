@@ -40,14 +40,14 @@ fn arguments() -> Result<Arguments, String> {
 }
 
 fn chosen_groups(names: &[String]) -> Result<Vec<Group>, String> {
-    let mut linked = groups();
+    let mut chosen = groups();
     for name in names {
-        if !linked.iter().any(|group| group.name == name) {
-            return Err(format!("no group '{name}' is linked"));
+        if !chosen.iter().any(|group| group.name == name) {
+            return Err(format!("there is no group '{name}'"));
         }
     }
-    linked.retain(|group| names.is_empty() || names.iter().any(|name| name == group.name));
-    Ok(linked)
+    chosen.retain(|group| names.is_empty() || names.iter().any(|name| name == group.name));
+    Ok(chosen)
 }
 
 fn run_group(group: &Group, arguments: &Arguments) -> Result<(), String> {
@@ -103,12 +103,8 @@ fn coverage(group: &Group, tally: &Tally) -> Result<(), String> {
 fn run() -> Result<(), String> {
     let arguments = arguments()?;
     println!("seed {}", arguments.seed);
-    let groups = chosen_groups(&arguments.groups)?;
-    if groups.is_empty() {
-        println!("no group is linked");
-    }
-    for group in &groups {
-        run_group(group, &arguments)?;
+    for group in chosen_groups(&arguments.groups)? {
+        run_group(&group, &arguments)?;
     }
     Ok(())
 }

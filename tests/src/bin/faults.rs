@@ -1,7 +1,6 @@
 //! Prints the faults that the stand-in can plant: the group that must find it, and its name.
 
 fn main() {
-    #[cfg(feature = "standin")]
     for (group, fault) in second_program::standin::faults() {
         println!("{group} {fault}");
     }

@@ -2,13 +2,13 @@
 
 use super::super::{measure, Line, Print};
 use super::{ask_all, describe, empty_field, mixed_columns, Written, PADDED, SHORTEST};
-use crate::ffi::rows::{bv_block_check, bv_block_field, bv_block_page};
 use crate::ffi::Field;
 use crate::generate::rows::filled;
 use crate::generate::schema::lay_schema;
 use crate::generate::Random;
 use crate::reference::schema::Column;
 use crate::reference::{rows as reference, MAX_BYTES};
+use barcovento::{Block, Schema};
 use std::hint::black_box;
 
 type Check = unsafe extern "C" fn(*const u8, usize, *const u8, usize, *mut u32) -> u32;
@@ -54,7 +54,7 @@ pub fn run(print: Print) {
 
 /// A block.
 struct Bench {
-    schema: Vec<u8>,
+    schema: Schema,
     block: Vec<u8>,
     rows: u32,
     columns: u32,
@@ -69,7 +69,12 @@ impl Bench {
         let block = filled(random, columns, bytes, 65_536, &mut numbers());
         let rows = reference::check(&schema, &block).expect("a sound block");
         let input = describe(block.len(), rows, columns.len()) + name;
+        let schema = Schema::new(&schema).expect("a sound schema");
         Bench { schema, block, rows, columns: columns.len() as u32, input }
+    }
+
+    fn accepted(&self) -> Block<'_> {
+        Block::new(&self.schema, &self.block).expect("a sound block")
     }
 
     /// A list for all fields.
@@ -78,24 +83,33 @@ impl Bench {
     }
 
     fn check_line(&self) -> Line {
-        let sides = sides!(bv_block_check as Check).if_earlier(|call| self.check(call) == 0);
-        let checking = &mut |call| {
-            black_box(self.check(call));
+        let before = earlier!(bv_block_check as Check).filter(|&call| self.check(call) == 0);
+        let checking = &mut |call| match call {
+            None => {
+                black_box(Block::new(&self.schema, &self.block).ok());
+            }
+            Some(call) => assert_eq!(self.check(call), 0),
         };
-        measure("block check", &self.input, sides, checking, &mut || {
-            black_box(reference::check(&self.schema, black_box(&self.block))).ok();
+        measure("block check", &self.input, before, checking, &mut || {
+            black_box(reference::check(self.schema.as_bytes(), black_box(&self.block))).ok();
         })
     }
 
     fn field_line(&self) -> Line {
-        let second = |row, column| reference::field(&self.schema, &self.block, row, column);
+        let (schema, block) = (self.schema.as_bytes(), self.accepted());
+        let second = |row, column| reference::field(schema, &self.block, row, column);
         measure(
             "block field, every one",
             &self.input,
-            sides!(bv_block_field as Ask),
-            &mut |call| self.ask_all(call),
+            earlier!(bv_block_field as Ask),
+            &mut |call| match call {
+                None => ask_all(self.rows, self.columns, |row, column| block.field(row, column)),
+                Some(call) => {
+                    ask_all(self.rows, self.columns, |row, column| self.field(call, row, column))
+                }
+            },
             &mut || {
-                ask_all(self.rows, self.columns, &|row, column| {
+                ask_all(self.rows, self.columns, |row, column| {
                     second(row, column).map(Field::from).ok()
                 })
             },
@@ -104,46 +118,42 @@ impl Bench {
 
     fn page_line(&self) -> Line {
         let (mut first, mut second) = (self.list(), self.list());
-        let line = measure(
-            "block page, all fields",
-            &self.input,
-            sides!(bv_block_page as Page),
-            &mut |call| self.page(call, &mut first),
-            &mut || {
-                black_box(reference::page(&self.schema, black_box(&self.block), 0, &mut second))
-                    .ok();
-            },
-        );
+        let schema = self.schema.as_bytes();
+        let line = self.page_against("block page, all fields", &mut first, &mut || {
+            black_box(reference::page(schema, black_box(&self.block), 0, &mut second)).ok();
+        });
         assert!(first == second);
         line
     }
 
     /// In the second program's column one check of the same library.
     fn page_by_check_line(&self) -> Line {
-        let mut list = self.list();
-        measure(
-            "block page by its check",
-            &self.input,
-            sides!(bv_block_page as Page),
-            &mut |call| self.page(call, &mut list),
-            &mut || assert_eq!(self.check(bv_block_check), 0),
-        )
+        self.page_against("block page by its check", &mut self.list(), &mut || {
+            black_box(self.accepted());
+        })
     }
 
     /// In the second program's column the same library's calls for each field.
     fn page_by_fields_line(&self) -> Line {
-        let mut list = self.list();
-        measure(
-            "block page against fields",
-            &self.input,
-            sides!(bv_block_page as Page),
-            &mut |call| self.page(call, &mut list),
-            &mut || self.ask_all(bv_block_field),
-        )
+        let block = self.accepted();
+        self.page_against("block page against fields", &mut self.list(), &mut || {
+            ask_all(self.rows, self.columns, |row, column| block.field(row, column))
+        })
     }
 
+    /// One page of all rows.
+    fn page_against(&self, name: &str, list: &mut [u64], other: &mut dyn FnMut()) -> Line {
+        let block = self.accepted();
+        let listing = &mut |call| match call {
+            None => assert_eq!(block.page_into(0, list), self.rows),
+            Some(call) => self.page(call, list),
+        };
+        measure(name, &self.input, earlier!(bv_block_page as Page), listing, other)
+    }
+
+    /// The earlier library's check.
     fn check(&self, call: Check) -> u32 {
-        let Bench { schema, block, .. } = self;
+        let (schema, block) = (self.schema.as_bytes(), &self.block);
         let mut rows = 0;
         let code =
             unsafe { call(schema.as_ptr(), schema.len(), block.as_ptr(), block.len(), &mut rows) };
@@ -151,12 +161,9 @@ impl Bench {
         code
     }
 
-    fn ask_all(&self, call: Ask) {
-        ask_all(self.rows, self.columns, &|row, column| self.field(call, row, column));
-    }
-
+    /// The earlier library's answer for a field.
     fn field(&self, call: Ask, row: u32, column: u32) -> Option<Field> {
-        let Bench { schema, block, .. } = self;
+        let (schema, block) = (self.schema.as_bytes(), &self.block);
         let mut to = empty_field();
         let code = unsafe {
             call(
@@ -177,9 +184,9 @@ impl Bench {
         (code == 0).then_some(to)
     }
 
-    /// One page of all rows.
+    /// The earlier library's page of all rows.
     fn page(&self, call: Page, list: &mut [u64]) {
-        let Bench { schema, block, .. } = self;
+        let (schema, block) = (self.schema.as_bytes(), &self.block);
         let (mut place, mut given, mut rows) = (0, 0, 0);
         let code = unsafe {
             call(
