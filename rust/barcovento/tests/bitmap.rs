@@ -174,7 +174,7 @@ fn combining_refuses() {
 /// The rooms that the wrapper lends are as long as the longest form of so many containers.
 #[test]
 fn rooms_are_enough() {
-    assert_eq!(bitmap::LONGEST_FORM, 268_390);
+    assert_eq!(bitmap::LONGEST_FORM, 267_366);
     for set in sets() {
         let form = Bitmap::from_positions(&set).expect("room for every form").into_bytes();
         assert!(form == written(&set) && form.len() <= bitmap::LONGEST_FORM);
