@@ -4,17 +4,13 @@ from __future__ import annotations
 
 import operator
 from array import array
-from collections.abc import Iterable, Iterator
+from collections.abc import Callable, Iterable, Iterator
 from ctypes import addressof, byref, c_size_t, c_uint8, c_uint32, create_string_buffer, string_at
 from typing import Any, NoReturn, SupportsIndex, Union, final
 
 from .library import HIGHEST, LIBRARY, BytesLike, number32, plain
+from .optional import is_array, needed_numpy, numpy_or_none
 from .refusals import Refused, answer
-
-try:
-    import numpy
-except ImportError:
-    numpy = None  # type: ignore[assignment]
 
 POSITIONS = 2_097_152
 CONTAINERS = 8_192
@@ -39,7 +35,7 @@ def _containers(data: bytes) -> int:
 
 
 # Each operation's bound on the containers of its result, by those of its inputs.
-_BOUNDS = {
+_BOUNDS: dict[str, Callable[[int, int], int]] = {
     "union": max,
     "intersection": min,
     "difference": lambda a, b: a,
@@ -92,6 +88,7 @@ def _written_iterable(positions: Iterable[SupportsIndex]) -> bytes:
 
 def _written_numpy(positions: Any) -> bytes:
     """The written form of a NumPy array of integers in any order."""
+    numpy = needed_numpy()
     if positions.dtype.kind not in "iu":
         raise TypeError(f"positions are integers, not {positions.dtype}")
     if positions.size == 0:
@@ -147,7 +144,7 @@ class Bitmap:
 
         As Bitmap(positions), without a loop in Python; fastest where they rise strictly.
         """
-        if numpy is not None and isinstance(positions, numpy.ndarray):
+        if is_array(positions):
             return cls._of(_written_numpy(positions))
         if isinstance(positions, array) and positions.typecode == "I" and positions:
             form = _written(positions.buffer_info()[0], len(positions), positions[-1])
@@ -215,6 +212,8 @@ class Bitmap:
     def positions(self) -> Any:
         """The members in rising order: a NumPy array of uint32, or without NumPy an array('I')."""
         count = len(self)
+        numpy = numpy_or_none()
+        members: Any
         if numpy is not None:
             members = numpy.empty(count, dtype=numpy.uint32)
             address = members.ctypes.data
@@ -295,7 +294,9 @@ class Bitmap:
         return _combined("difference", _form_of(other), self._form) == _EMPTY
 
     def __le__(self, other: object) -> bool:
-        return self.issubset(other) if isinstance(other, Bitmap) else NotImplemented
+        if not isinstance(other, Bitmap):
+            return NotImplemented
+        return self.issubset(other)
 
     def __lt__(self, other: object) -> bool:
         if not isinstance(other, Bitmap):
@@ -303,7 +304,9 @@ class Bitmap:
         return len(self) < len(other) and self.issubset(other)
 
     def __ge__(self, other: object) -> bool:
-        return self.issuperset(other) if isinstance(other, Bitmap) else NotImplemented
+        if not isinstance(other, Bitmap):
+            return NotImplemented
+        return self.issuperset(other)
 
     def __gt__(self, other: object) -> bool:
         if not isinstance(other, Bitmap):
@@ -311,7 +314,9 @@ class Bitmap:
         return len(self) > len(other) and self.issuperset(other)
 
     def __eq__(self, other: object) -> bool:
-        return self._form == other._form if isinstance(other, Bitmap) else NotImplemented
+        if not isinstance(other, Bitmap):
+            return NotImplemented
+        return self._form == other._form
 
     def __hash__(self) -> int:
         return hash((Bitmap, self._form))
@@ -344,7 +349,7 @@ def _form_of(positions: Iterable[SupportsIndex]) -> bytes:
     """The written form of a bitmap, or of positions in any order."""
     if isinstance(positions, Bitmap):
         return positions._form
-    if numpy is not None and isinstance(positions, numpy.ndarray):
+    if is_array(positions):
         return _written_numpy(positions)
     return _written_iterable(positions)
 

@@ -46,7 +46,7 @@ class Fault(NamedTuple):
     """Why a bitmap is refused: the first rule broken, and where (see bv_bitmap_explain)."""
 
     number: int
-    index: int
+    index: int  # type: ignore[assignment]
     byte: int
     found: int
     wanted: int
@@ -109,7 +109,7 @@ def explain(data: bytes) -> Fault | None:
 
 
 def answer(status: int, *bitmaps: bytes) -> None:
-    """Nothing for status 0; else Refused, with the fault of the first of the bitmaps that has one."""
+    """Nothing for status 0; else Refused, with the fault of the first bitmap that has one."""
     if status == 0:
         return
     faults = (explain(data) for data in bitmaps) if status <= 11 else ()

@@ -104,7 +104,9 @@ class Schema(Sequence[Column]):
         return iter(self._columns)
 
     def __eq__(self, other: object) -> bool:
-        return self._columns == other._columns if isinstance(other, Schema) else NotImplemented
+        if not isinstance(other, Schema):
+            return NotImplemented
+        return self._columns == other._columns
 
     def __hash__(self) -> int:
         return hash((Schema, self._columns))

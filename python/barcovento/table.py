@@ -9,9 +9,10 @@ from ctypes import byref, c_int64, c_size_t, c_uint8, c_uint32, c_uint64
 from typing import Any, SupportsIndex, overload
 
 from .library import LIBRARY, BytesLike, number32, plain
+from .optional import needed_numpy
 from .refusals import Refused, answer
 from .schema import Schema, SchemaLike, schema_of
-from .values import DOUBLE, FLOAT, PLACE, Value, decode, masked, numpy, require_numpy
+from .values import DOUBLE, FLOAT, PLACE, Value, decode, masked
 
 Row = tuple[Value, ...]
 
@@ -154,7 +155,7 @@ class _Table(Sequence[Row]):
         nanoseconds. For text, bytes and larger DECIMAL two arrays: where each value starts in
         `bytes(table)`, and its length. Refused 25; ImportError without NumPy.
         """
-        require_numpy()
+        numpy = needed_numpy()
         number = self._column(column)
         fields = numpy.empty((self._rows, 3), dtype=numpy.int64)
         for start, stop in self._pages(0, self._rows):
@@ -210,7 +211,7 @@ class Block(_Table):
         return self._page(start, stop), 3 * column, 3 * len(self._schema)
 
     def _ask(self, row: int, column: int, outputs: tuple[Any, ...]) -> int:
-        return LIBRARY.bv_block_field(*self._slices(), row, column, *outputs)
+        return int(LIBRARY.bv_block_field(*self._slices(), row, column, *outputs))
 
     def __reduce__(self) -> tuple[object, tuple[Schema, bytes]]:
         return Block, (self._schema, self._data)
@@ -255,7 +256,7 @@ class Bucket(_Table):
         return self._page(column, start, stop), 0, 3
 
     def _ask(self, row: int, column: int, outputs: tuple[Any, ...]) -> int:
-        return LIBRARY.bv_bucket_field(*self._slices(), row, column, *outputs)
+        return int(LIBRARY.bv_bucket_field(*self._slices(), row, column, *outputs))
 
     def __reduce__(self) -> tuple[object, tuple[Schema, int, bytes]]:
         return Bucket, (self._schema, self._rows, self._data)

@@ -7,12 +7,8 @@ from collections.abc import Callable, Iterable
 from decimal import MAX_EMAX, MAX_PREC, MIN_EMIN, Context, Decimal
 from typing import Any, NamedTuple, Union
 
+from .optional import needed_numpy
 from .schema import Column, Type
-
-try:
-    import numpy
-except ImportError:
-    numpy = None  # type: ignore[assignment]
 
 NULL, YES_NO, WHOLE, FLOAT, DOUBLE, TIME, PLACE = range(7)
 
@@ -25,7 +21,7 @@ _EXACT = Context(prec=MAX_PREC, Emax=MAX_EMAX, Emin=MIN_EMIN, traps=[])
 class Time(NamedTuple):
     """A TIMESTAMP: the stored count, in the unit of its precision, and nanoseconds beside it."""
 
-    count: int
+    count: int  # type: ignore[assignment]
     nanos: int
 
 
@@ -35,14 +31,15 @@ Converter = Callable[[int, int], Value]
 
 def double(bits: int) -> float:
     """The double of 64 stored bits, which may come as a signed number; a NaN keeps its bits."""
-    return struct.unpack("<d", (bits & 0xFFFF_FFFF_FFFF_FFFF).to_bytes(8, "little"))[0]
+    stored = (bits & 0xFFFF_FFFF_FFFF_FFFF).to_bytes(8, "little")
+    return float(struct.unpack("<d", stored)[0])
 
 
 def single(bits: int) -> float:
     """The float of 32 stored bits, widened; a NaN keeps its sign and payload."""
     if bits & 0x7FFF_FFFF > 0x7F80_0000:
         return double((bits >> 31) << 63 | 0x7FF << 52 | (bits & 0x7F_FFFF) << 29)
-    return struct.unpack("<f", bits.to_bytes(4, "little"))[0]
+    return float(struct.unpack("<f", bits.to_bytes(4, "little"))[0])
 
 
 def text(stored: bytes) -> str | bytes:
@@ -105,17 +102,12 @@ def decode(
     ]
 
 
-def require_numpy() -> None:
-    """ImportError with a plain message where NumPy is missing."""
-    if numpy is None:
-        raise ImportError("arrays need NumPy, which cannot be imported here")
-
-
 def masked(column: Column, kinds: Any, numbers: Any, others: Any) -> Any:
     """The same as masked arrays: nulls are masked.
 
     One array, or a pair: counts and nanoseconds, or the starts and lengths of places.
     """
+    numpy = needed_numpy()
     null = kinds == NULL
     kind = column.type
     if kind == Type.BOOLEAN:

@@ -207,8 +207,9 @@ class Combining(unittest.TestCase):
 
     def test_other_operands(self) -> None:
         bitmap = Bitmap([1])
+        orders = (operator.le, operator.lt, operator.ge, operator.gt)
         for other in ({1}, [1], frozenset(), b"", None):
-            for operate in (*OPERATIONS.values(), operator.le, operator.lt, operator.ge, operator.gt):
+            for operate in (*OPERATIONS.values(), *orders):
                 self.assertRaises(TypeError, operate, bitmap, other)
                 self.assertRaises(TypeError, operate, other, bitmap)
             self.assertNotEqual(bitmap, other)
@@ -222,8 +223,9 @@ class Combining(unittest.TestCase):
     def test_fault_of_the_input_at_fault(self) -> None:
         good, short = sample("zone.bitmap"), b"\x01\x00"
         old = b"\x02" + good[1:]
+        cases = ((short, good, 1), (good, old, 2), (old, short, 2), (short, old, 1))
         for name in OPERATIONS:
-            for a, b, number in ((short, good, 1), (good, old, 2), (old, short, 2), (short, old, 1)):
+            for a, b, number in cases:
                 with self.assertRaises(Refused) as caught:
                     combine(name, a, b)
                 self.assertEqual(caught.exception.number, number)

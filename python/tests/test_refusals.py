@@ -108,11 +108,11 @@ STORES: list[tuple[int, Callable[[], Any]]] = [
 class Refusals(unittest.TestCase):
     """Numbers, words, faults."""
 
-    def refused(self, number: int, call: Callable[[], Any]) -> Refused:
+    def refused(self, wanted: int, call: Callable[[], Any]) -> Refused:
         """What the call raised."""
         with self.assertRaises(Refused) as caught:
             call()
-        self.assertEqual(caught.exception.number, number)
+        self.assertEqual(caught.exception.number, wanted)
         return caught.exception
 
     def test_bitmaps(self) -> None:
@@ -125,10 +125,10 @@ class Refusals(unittest.TestCase):
                 self.assertEqual(str(error), f"refused {fault[0]}: {said}")
 
     def test_tables_and_stores(self) -> None:
-        for number, call in TABLES + STORES:
-            error = self.refused(number, call)
+        for wanted, call in TABLES + STORES:
+            error = self.refused(wanted, call)
             self.assertIsNone(error.fault)
-            self.assertEqual(str(error), f"refused {number}: {error.words}")
+            self.assertEqual(str(error), f"refused {wanted}: {error.words}")
 
     def test_all_are_reached(self) -> None:
         reached = {fault[0] for _, fault, _ in BITMAPS} | {n for n, _ in TABLES + STORES}
