@@ -78,7 +78,7 @@ def _candidates() -> Iterator[tuple[str, str | None]]:
     if named:
         yield f"{VARIABLE}={named}", named
         return
-    yield f"{VARIABLE}, which is not set", None
+    yield f"{VARIABLE} (not set)", None
     built = Path(__file__).resolve().parents[2] / "target" / "library" / "libbarcovento.so"
     yield str(built), str(built) if built.exists() else None
     yield f"{SONAME}, by the loader", SONAME

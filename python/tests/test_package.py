@@ -8,6 +8,7 @@ import doctest
 import os
 import random
 import re
+import shutil
 import subprocess
 import sys
 import tempfile
@@ -23,11 +24,9 @@ from support import ROOT, form, random_set, sample
 PACKAGE = ROOT / "python"
 
 
-def imported(path: Path, variable: str | None) -> subprocess.CompletedProcess[str]:
-    """An import of the package from a directory, with BARCOVENTO_LIBRARY as given."""
-    environment = {"PATH": os.environ.get("PATH", ""), "PYTHONPATH": str(path)}
-    if variable is not None:
-        environment["BARCOVENTO_LIBRARY"] = variable
+def imported(path: Path, **variables: str) -> subprocess.CompletedProcess[str]:
+    """An import of the package from a directory, with these variables set."""
+    environment = {"PATH": os.environ.get("PATH", ""), "PYTHONPATH": str(path), **variables}
     words = "import barcovento; print(len(barcovento.Bitmap([1, 2])))"
     return subprocess.run(
         [sys.executable, "-c", words], env=environment, capture_output=True, text=True, cwd=path
@@ -52,18 +51,18 @@ class Package(unittest.TestCase):
             self.assertTrue(hasattr(barcovento, name), name)
 
     def test_library_by_variable(self) -> None:
-        done = imported(PACKAGE, LIBRARY._name)
+        done = imported(PACKAGE, BARCOVENTO_LIBRARY=LIBRARY._name)
         self.assertEqual((done.returncode, done.stdout), (0, "2\n"), done.stderr)
 
     def test_wrong_variable_is_not_passed_over(self) -> None:
         for wrong in ("/no/such/file.so", str(ROOT / "README.md")):
-            done = imported(PACKAGE, wrong)
+            done = imported(PACKAGE, BARCOVENTO_LIBRARY=wrong)
             self.assertNotEqual(done.returncode, 0)
             self.assertIn(f"BARCOVENTO_LIBRARY={wrong}", done.stderr)
             self.assertIn("./install", done.stderr)
 
     def test_other_library(self) -> None:
-        done = imported(PACKAGE, ctypes.util.find_library("c"))
+        done = imported(PACKAGE, BARCOVENTO_LIBRARY=ctypes.util.find_library("c"))
         self.assertNotEqual(done.returncode, 0)
         self.assertIn("bv_bitmap_check", done.stderr)
 
@@ -82,18 +81,41 @@ class Package(unittest.TestCase):
         self.assertEqual(done.stdout, "array('I', [1, 3])\n")
         self.assertIn("ImportError: arrays need NumPy", done.stderr)
 
+
+class OutsideTheRepository(unittest.TestCase):
+    """A copy of the package that lies elsewhere."""
+
+    def setUp(self) -> None:
+        folder = tempfile.TemporaryDirectory()
+        self.addCleanup(folder.cleanup)
+        self.path = Path(folder.name) / "python"
+        self.lib = Path(folder.name) / "lib"
+        self.lib.mkdir()
+        copy = self.path / "barcovento"
+        copy.mkdir(parents=True)
+        for file in (PACKAGE / "barcovento").glob("*.py"):
+            (copy / file.name).write_bytes(file.read_bytes())
+
     def test_nothing_found(self) -> None:
-        with tempfile.TemporaryDirectory() as folder:
-            copy = Path(folder) / "a" / "barcovento"
-            copy.mkdir(parents=True)
-            for file in (PACKAGE / "barcovento").glob("*.py"):
-                (copy / file.name).write_bytes(file.read_bytes())
-            done = imported(copy.parent, None)
-            if done.returncode == 0:
-                self.skipTest("the library is installed on this machine")
-            for tried in ("BARCOVENTO_LIBRARY", "target/library", "by the loader", "pkg-config"):
-                self.assertIn(tried, done.stderr)
-            self.assertIn("./install", done.stderr)
+        done = imported(self.path)
+        if done.returncode == 0:
+            self.skipTest("the library is installed on this machine")
+        for tried in ("BARCOVENTO_LIBRARY", "target/library", "by the loader", "pkg-config"):
+            self.assertIn(tried, done.stderr)
+        self.assertIn("./install", done.stderr)
+
+    def test_by_the_loader(self) -> None:
+        os.symlink(LIBRARY._name, self.lib / "libbarcovento.so.0")
+        done = imported(self.path, LD_LIBRARY_PATH=str(self.lib))
+        self.assertEqual((done.returncode, done.stdout), (0, "2\n"), done.stderr)
+
+    @unittest.skipIf(shutil.which("pkg-config") is None, "pkg-config is missing")
+    def test_by_pkg_config(self) -> None:
+        os.symlink(LIBRARY._name, self.lib / "libbarcovento.so")
+        words = f"libdir={self.lib}\nName: barcovento\nDescription: x\nVersion: 0.1.0\n"
+        (self.lib / "barcovento.pc").write_text(words)
+        done = imported(self.path, PKG_CONFIG_PATH=str(self.lib))
+        self.assertEqual((done.returncode, done.stdout), (0, "2\n"), done.stderr)
 
 
 class Threads(unittest.TestCase):
