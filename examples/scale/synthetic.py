@@ -41,11 +41,16 @@ def spot(rng: random.Random) -> set[int]:
     return {at for row in rows for at in range(row * WIDTH + left, row * WIDTH + left + wide)}
 
 
+def stage(burner: int, night: int) -> int:
+    """A burner's mask stays as it is for three nights: a stage."""
+    return (night + burner) // 3
+
+
 def members(season: Season, burner: int, night: int) -> set[int]:
-    """A mask's positions. A burner's mask stays as it is for up to three nights."""
+    """A mask's positions: some spots of the burner's, and others of the stage."""
     rng = random.Random(f"{season.seed} {burner}")
     hot = spot(rng) | spot(rng) | spot(rng)
-    rng = random.Random(f"{season.seed} {burner} {(night + burner) // 3}")
+    rng = random.Random(f"{season.seed} {burner} {stage(burner, night)}")
     hot |= spot(rng) | spot(rng)
     return hot | {rng.randrange(WIDTH * HEIGHT) for _ in range(rng.choice([30, 300, 3000]))}
 
@@ -74,10 +79,14 @@ def every_mask(season: Season) -> Iterator[tuple[int, int]]:
 def write_season(season: Season, folder: Path) -> list[str]:
     """The season's masks into a folder; the paths of those that were damaged."""
     spoiled = []
+    written, form = None, b""
     for burner, night in every_mask(season):
         path = folder / burner_name(burner) / f"{night_name(night)}.bitmap"
         path.parent.mkdir(parents=True, exist_ok=True)
-        data = bytes(Bitmap(members(season, burner, night)))
+        if written != (burner, stage(burner, night)):
+            written = burner, stage(burner, night)
+            form = bytes(Bitmap(members(season, burner, night)))
+        data = form
         if damaged(season, burner, night):
             data = spoil(data, len(spoiled))
             spoiled.append(str(path))

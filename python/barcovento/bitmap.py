@@ -135,8 +135,7 @@ class Bitmap:
     @classmethod
     def from_bytes(cls, data: BytesLike) -> Bitmap:
         """The bitmap in the bytes, of whatever writer. Refused 1 to 11, with the fault."""
-        judged = plain(data)
-        return cls._of(_combined("union", judged, judged))
+        return cls._of(_combined("union", plain(data), _EMPTY))
 
     @classmethod
     def from_positions(cls, positions: Any) -> Bitmap:
