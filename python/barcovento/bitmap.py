@@ -217,7 +217,7 @@ class Bitmap:
             members = numpy.empty(count, dtype=numpy.uint32)
             address = members.ctypes.data
         else:
-            members = array("I", bytes(4 * count))
+            members = array("I", [0]) * count
             address = members.buffer_info()[0]
         if count:
             self._page(0, address, count)

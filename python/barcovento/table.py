@@ -189,7 +189,7 @@ class Block(_Table):
 
     def _page(self, start: int, stop: int) -> array[int]:
         """The numbers of the rows from start up to stop."""
-        page = array("q", bytes(24 * len(self._schema) * (stop - start)))
+        page = array("q", [0]) * (3 * len(self._schema) * (stop - start))
         place, given, rows = c_uint32(start), c_uint32(), c_uint32()
         address, room = page.buffer_info()
         status = LIBRARY.bv_block_page(
@@ -236,7 +236,7 @@ class Bucket(_Table):
 
     def _page(self, column: int, start: int, stop: int) -> array[int]:
         """The numbers of one column in the rows from start up to stop."""
-        page = array("q", bytes(24 * (stop - start)))
+        page = array("q", [0]) * (3 * (stop - start))
         place, given = c_uint32(start), c_uint32()
         address, room = page.buffer_info()
         status = LIBRARY.bv_bucket_page(
