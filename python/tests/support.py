@@ -7,6 +7,7 @@ from __future__ import annotations
 
 import random
 import struct
+import unittest
 from collections.abc import Iterable
 from decimal import Decimal
 from pathlib import Path
@@ -14,6 +15,14 @@ from typing import Any
 
 ROOT = Path(__file__).resolve().parents[2]
 SAMPLES = ROOT / "samples"
+
+
+class Case(unittest.TestCase):
+    """A test case that can compare long lists."""
+
+    def same(self, found: object, expected: object) -> None:
+        """Equal, without the list of differences: of long lists that would take hours."""
+        self.assertTrue(found == expected, "not the same")
 
 
 def sample(name: str) -> bytes:

@@ -9,6 +9,7 @@ from decimal import Decimal
 
 from barcovento import Bitmap, Block, Bucket, Column, Refused, Schema, Type
 from support import (
+    Case,
     block_bytes,
     bucket_bytes,
     hexed,
@@ -38,7 +39,7 @@ def setUpModule() -> None:
         raise unittest.SkipTest("NumPy is missing")
 
 
-class Columns(unittest.TestCase):
+class Columns(Case):
     """Columns as masked arrays."""
 
     def test_samples(self) -> None:
@@ -112,14 +113,14 @@ class Columns(unittest.TestCase):
         rows = [(at, None if at % 3 else at % 100) for at in range(65_536)]
         table = Bucket(schema_bytes(columns), 65_536, bucket_bytes(columns, rows))
         self.assertEqual(table.array(0).sum(), sum(range(65_536)))
-        self.assertEqual(table.array(1).tolist(), [row[1] for row in rows])
+        self.same(table.array(1).tolist(), [row[1] for row in rows])
 
     def test_nan_keeps_its_bits(self) -> None:
         block = Block(hexed("01 05 00"), hexed("00 01 00 80 FF 00 00 00 00 01 00 00 00"))
         self.assertEqual(block.array(0).data.tobytes(), hexed("01 00 80 FF"))
 
 
-class Positions(unittest.TestCase):
+class Positions(Case):
     """Positions in and out of bitmaps."""
 
     def test_there_and_back(self) -> None:
@@ -129,7 +130,7 @@ class Positions(unittest.TestCase):
             bitmap = Bitmap(members)
             given = bitmap.positions()
             self.assertEqual(given.dtype, numpy.uint32)
-            self.assertEqual(given.tolist(), sorted(members))
+            self.same(given.tolist(), sorted(members))
             for kind in ("uint32", "int64", "uint64", "int32"):
                 self.assertEqual(Bitmap.from_positions(given.astype(kind)), bitmap)
             mixed = rng.sample(sorted(members), len(members)) * 2
@@ -139,7 +140,7 @@ class Positions(unittest.TestCase):
     def test_a_frame(self) -> None:
         frame = numpy.random.default_rng(13).random((480, 640))
         hot = Bitmap.from_positions(numpy.flatnonzero(frame > 0.8))
-        self.assertEqual(list(hot), [at for at, t in enumerate(frame.ravel()) if t > 0.8])
+        self.same(list(hot), [at for at, t in enumerate(frame.ravel()) if t > 0.8])
         self.assertEqual(Bitmap.from_positions(numpy.arange(600).reshape(2, 300)[:, ::2]),
                          Bitmap(range(0, 600, 2)))
 

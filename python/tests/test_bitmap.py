@@ -10,7 +10,7 @@ import unittest
 from array import array
 
 from barcovento import Bitmap, Refused, combine
-from support import foreign, form, hexed, random_set, sample
+from support import Case, foreign, form, hexed, random_set, sample
 
 LAST = 2_097_151
 
@@ -38,7 +38,7 @@ OPERATIONS = {
 }
 
 
-class Forms(unittest.TestCase):
+class Forms(Case):
     """What is written, and what is read."""
 
     def test_worked_examples(self) -> None:
@@ -86,7 +86,7 @@ class Forms(unittest.TestCase):
             other = foreign(members, rng)
             self.assertEqual(Bitmap.check(other), len(members))
             self.assertEqual(Bitmap.from_bytes(other), bitmap)
-            self.assertEqual(list(bitmap), sorted(members))
+            self.same(list(bitmap), sorted(members))
 
     def test_any_bytes_like(self) -> None:
         data = sample("zone.bitmap")
@@ -100,7 +100,7 @@ class Forms(unittest.TestCase):
             self.assertRaises(TypeError, Bitmap.check, wrong)
 
 
-class Positions(unittest.TestCase):
+class Positions(Case):
     """Making bitmaps from positions."""
 
     def test_any_order_and_repeats(self) -> None:
@@ -134,10 +134,10 @@ class Positions(unittest.TestCase):
         for members in (set(), {7}, set(range(0, 100_000, 3))):
             given = Bitmap(members).positions()
             self.assertEqual(given.itemsize, 4)
-            self.assertEqual(list(given), sorted(members))
+            self.same(list(given), sorted(members))
 
 
-class Questions(unittest.TestCase):
+class Questions(Case):
     """Members, ranks, ends."""
 
     def test_members(self) -> None:
@@ -174,10 +174,10 @@ class Questions(unittest.TestCase):
         listing = iter(Bitmap(members))
         self.assertEqual(next(listing), 0)
         self.assertEqual(next(listing), 2)
-        self.assertEqual(list(listing), list(members[2:]))
+        self.same(list(listing), list(members[2:]))
 
 
-class Combining(unittest.TestCase):
+class Combining(Case):
     """Operators and methods as those of frozenset."""
 
     def test_against_sets(self) -> None:
@@ -232,7 +232,7 @@ class Combining(unittest.TestCase):
                 self.assertEqual(caught.exception.fault.number, number)
 
 
-class Objects(unittest.TestCase):
+class Objects(Case):
     """What every Python object is expected to do."""
 
     def test_equal_and_hash(self) -> None:

@@ -13,6 +13,7 @@ from typing import Any
 
 from barcovento import Block, Bucket, Column, Schema, Time, Type
 from support import (
+    Case,
     block_bytes,
     bucket_bytes,
     hexed,
@@ -75,7 +76,7 @@ def stored_bits(value: float) -> bytes:
     return struct.pack(">d", value)
 
 
-class Schemas(unittest.TestCase):
+class Schemas(Case):
     """Columns and their names."""
 
     def test_sample(self) -> None:
@@ -105,7 +106,7 @@ class Schemas(unittest.TestCase):
         self.assertEqual(repr(Schema(hexed("01 01 00"))), "Schema(TINYINT NOT NULL)")
 
 
-class Samples(unittest.TestCase):
+class Samples(Case):
     """The sample tables, plain and padded."""
 
     def tables(self) -> list[tuple[Any, list[Any]]]:
@@ -120,8 +121,8 @@ class Samples(unittest.TestCase):
     def test_rows(self) -> None:
         for table, rows in self.tables():
             self.assertEqual(len(table), 3)
-            self.assertEqual(list(table), rows)
-            self.assertEqual(list(reversed(table)), rows[::-1])
+            self.same(list(table), rows)
+            self.same(list(reversed(table)), rows[::-1])
             for at in range(-3, 3):
                 self.assertEqual(table[at], rows[at])
             for wrong in (3, -4):
@@ -148,7 +149,7 @@ class Samples(unittest.TestCase):
         self.assertEqual(bytes(block), sample("readings.block"))
 
 
-class Values(unittest.TestCase):
+class Values(Case):
     """One value of every type."""
 
     def test_in_blocks_and_buckets(self) -> None:
@@ -194,7 +195,7 @@ class Values(unittest.TestCase):
         self.assertEqual(int(block[0][0]), large)
 
 
-class RandomTables(unittest.TestCase):
+class RandomTables(Case):
     """Random tables, laid out with shortest and with padded numbers."""
 
     def random_table(self, rng: random.Random, bucket: bool) -> tuple[Any, list[Any]]:
@@ -214,7 +215,7 @@ class RandomTables(unittest.TestCase):
         rng = random.Random(8)
         for turn in range(60):
             table, rows = self.random_table(rng, turn % 2 == 1)
-            self.assertEqual(list(table), rows)
+            self.same(list(table), rows)
             for column in range(len(table.schema)):
                 self.assertEqual(table.column(column), [row[column] for row in rows])
                 if rows:
@@ -236,13 +237,13 @@ class RandomTables(unittest.TestCase):
             end += 6 + len(word)
         block += struct.pack(f"<{len(offsets)}I", *offsets) + struct.pack("<I", len(rows))
         for table in (Block(schema, block), Bucket(schema, 65_536, bucket_bytes(columns, rows))):
-            self.assertEqual(list(table), rows)
-            self.assertEqual(list(reversed(table)), rows[::-1])
-            self.assertEqual(table.column(0), list(range(65_536)))
+            self.same(list(table), rows)
+            self.same(list(reversed(table)), rows[::-1])
+            self.same(table.column(0), list(range(65_536)))
             self.assertEqual(table.index(rows[65_000]), 65_000)
             for part in (slice(5, 9), slice(-3, None), slice(None, None, 999), slice(9, 2, -2),
                          slice(None, None, -1), slice(7, 7), slice(30_000, 40_000, 7)):
-                self.assertEqual(table[part], rows[part])
+                self.same(table[part], rows[part])
 
 
 if __name__ == "__main__":
