@@ -78,8 +78,8 @@ def every_mask(season: Season) -> Iterator[tuple[int, int]]:
 
 def write_season(season: Season, folder: Path) -> list[str]:
     """The season's masks into a folder; the paths of those that were damaged."""
-    spoiled = []
-    written, form = None, b""
+    spoiled: list[str] = []
+    written, form = (-1, -1), b""
     for burner, night in every_mask(season):
         path = folder / burner_name(burner) / f"{night_name(night)}.bitmap"
         path.parent.mkdir(parents=True, exist_ok=True)

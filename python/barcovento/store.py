@@ -67,6 +67,7 @@ class Store:
         return self._buffer, self._room, self._directory, DIRECTORY
 
     def _used(self, slot: int) -> bool:
+        """Whether a slot holds a bitmap."""
         return self._directory[2 * slot + 1] > 0
 
     def __repr__(self) -> str:

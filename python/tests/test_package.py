@@ -22,6 +22,7 @@ from barcovento.library import LIBRARY
 from support import ROOT, form, random_set, sample
 
 PACKAGE = ROOT / "python"
+LIBRARY_PATH = Path(LIBRARY._name).resolve()
 
 
 def imported(path: Path, **variables: str) -> subprocess.CompletedProcess[str]:
@@ -50,8 +51,9 @@ class Package(unittest.TestCase):
         for name in barcovento.__all__:
             self.assertTrue(hasattr(barcovento, name), name)
 
+    @unittest.skipUnless(LIBRARY_PATH.exists(), "the library was found by the loader")
     def test_library_by_variable(self) -> None:
-        done = imported(PACKAGE, BARCOVENTO_LIBRARY=LIBRARY._name)
+        done = imported(PACKAGE, BARCOVENTO_LIBRARY=str(LIBRARY_PATH))
         self.assertEqual((done.returncode, done.stdout), (0, "2\n"), done.stderr)
 
     def test_wrong_variable_is_not_passed_over(self) -> None:
@@ -104,14 +106,16 @@ class OutsideTheRepository(unittest.TestCase):
             self.assertIn(tried, done.stderr)
         self.assertIn("./install", done.stderr)
 
+    @unittest.skipUnless(LIBRARY_PATH.exists(), "the library was found by the loader")
     def test_by_the_loader(self) -> None:
-        os.symlink(LIBRARY._name, self.lib / "libbarcovento.so.0")
+        os.symlink(LIBRARY_PATH, self.lib / "libbarcovento.so.0")
         done = imported(self.path, LD_LIBRARY_PATH=str(self.lib))
         self.assertEqual((done.returncode, done.stdout), (0, "2\n"), done.stderr)
 
+    @unittest.skipUnless(LIBRARY_PATH.exists(), "the library was found by the loader")
     @unittest.skipIf(shutil.which("pkg-config") is None, "pkg-config is missing")
     def test_by_pkg_config(self) -> None:
-        os.symlink(LIBRARY._name, self.lib / "libbarcovento.so")
+        os.symlink(LIBRARY_PATH, self.lib / "libbarcovento.so")
         words = f"libdir={self.lib}\nName: barcovento\nDescription: x\nVersion: 0.1.0\n"
         (self.lib / "barcovento.pc").write_text(words)
         done = imported(self.path, PKG_CONFIG_PATH=str(self.lib))
