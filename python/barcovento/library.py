@@ -69,7 +69,8 @@ def _from_pkg_config() -> str | None:
         found = subprocess.run(command, capture_output=True, text=True, check=True).stdout.strip()
     except (OSError, subprocess.CalledProcessError):
         return None
-    return str(Path(found) / "libbarcovento.so") if found else None
+    paths = (Path(found) / name for name in (SONAME, "libbarcovento.so"))
+    return next((str(path) for path in paths if found and path.exists()), None)
 
 
 def _candidates() -> Iterator[tuple[str, str | None]]:
