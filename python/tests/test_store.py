@@ -71,6 +71,14 @@ class Stores(unittest.TestCase):
         for room in (0, 1, 11):
             self.assertRaises(Refused, Store(room).owner(0).__setitem__, 0, Bitmap())
 
+    def test_long_forms(self) -> None:
+        store = Store(20_000_000)
+        held = {slot: Bitmap(range(0, 2_097_152, 2 + slot % 2)) for slot in range(64)}
+        for slot, bitmap in held.items():
+            store.owner(slot // 32)[slot] = bitmap
+        forms = [bytes(held[slot]) for slot in range(64)]
+        self.assertEqual(store.save(), b"".join(number(len(form)) + form for form in forms))
+
     def test_random_against_a_dictionary(self) -> None:
         rng = random.Random(6)
         store, room = Store(600), 300
