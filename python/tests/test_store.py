@@ -73,11 +73,11 @@ class Stores(unittest.TestCase):
 
     def test_long_forms(self) -> None:
         store = Store(20_000_000)
-        held = {slot: Bitmap(range(0, 2_097_152, 2 + slot % 2)) for slot in range(64)}
-        for slot, bitmap in held.items():
-            store.owner(slot // 32)[slot] = bitmap
-        forms = [bytes(held[slot]) for slot in range(64)]
-        self.assertEqual(store.save(), b"".join(number(len(form)) + form for form in forms))
+        kinds = [Bitmap(range(0, 2_097_152, 2)), Bitmap(range(0, 100_000, 3))]
+        for slot in range(64):
+            store.owner(slot // 32)[slot] = kinds[slot % 2]
+        entries = [number(len(bytes(kind))) + bytes(kind) for kind in kinds]
+        self.assertEqual(store.save(), 32 * b"".join(entries))
 
     def test_random_against_a_dictionary(self) -> None:
         rng = random.Random(6)
