@@ -74,6 +74,9 @@ class Store:
         used = sum(map(self._used, range(SLOTS)))
         return f"Store({self._room} bytes, {used} of {SLOTS} slots used)"
 
+    def __reduce__(self) -> tuple[object, tuple[bytes, int]]:
+        return Store.load, (self.save(), self._room)
+
 
 class Owner(MutableMapping[int, Bitmap]):
     """The slots of one owner of a store: a mapping from slot numbers to bitmaps.

@@ -6,8 +6,10 @@ import copy
 import operator
 import pickle
 import random
+import tracemalloc
 import unittest
 from array import array
+from collections import deque
 
 from barcovento import Bitmap, Refused, combine
 from support import Case, foreign, form, hexed, random_set, sample
@@ -175,6 +177,13 @@ class Questions(Case):
         self.assertEqual(next(listing), 0)
         self.assertEqual(next(listing), 2)
         self.same(list(listing), list(members[2:]))
+
+    def test_iteration_takes_little_memory(self) -> None:
+        bitmap = Bitmap(range(400_000))
+        tracemalloc.start()
+        self.addCleanup(tracemalloc.stop)
+        deque(bitmap, maxlen=0)
+        self.assertLess(tracemalloc.get_traced_memory()[1], 2_000_000)
 
 
 class Combining(Case):

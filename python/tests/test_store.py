@@ -2,6 +2,7 @@
 
 from __future__ import annotations
 
+import pickle
 import random
 import unittest
 from collections.abc import MutableMapping
@@ -23,6 +24,7 @@ class Stores(unittest.TestCase):
         self.assertEqual(dict(store.owner(1)), {63: last})
         self.assertEqual(store.save(), saved)
         self.assertEqual(repr(store), "Store(210 bytes, 3 of 64 slots used)")
+        self.assertEqual(pickle.loads(pickle.dumps(store)).save(), saved)
 
     def test_mapping(self) -> None:
         owner = Store(1000).owner(0)
