@@ -105,7 +105,8 @@ class Vectors(Case):
                 if row is None:
                     self.ask(lambda: len(kind(*arguments)), answer)
                 else:
-                    self.field(lambda: kind(*arguments), (int(row), int(column)), int(whole), answer)
+                    place = int(row), int(column)
+                    self.field(lambda: kind(*arguments), place, int(whole), answer)
         return asked
 
     def ask(self, call: Callable[[], Any], answer: str) -> Any:
@@ -119,7 +120,9 @@ class Vectors(Case):
         self.assertEqual(caught.exception.number, int(wanted))
         return None
 
-    def field(self, table: Callable[[], Any], place: tuple[int, int], whole: int, said: str) -> None:
+    def field(
+        self, table: Callable[[], Any], place: tuple[int, int], whole: int, said: str
+    ) -> None:
         """One field, as the answer says it."""
         value = self.ask(lambda: table().field(*place), said)
         found = ANSWER.search(said)
