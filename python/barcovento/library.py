@@ -124,6 +124,6 @@ def plain(data: BytesLike) -> bytes:
 
 
 def number32(value: SupportsIndex) -> int:
-    """An integer as a number of 32 bits; what does not fit is the highest, which no call takes."""
+    """An integer as a number of 32 bits; what does not fit is the highest, which names nothing."""
     number = operator.index(value)
     return number if 0 <= number <= HIGHEST else HIGHEST
