@@ -8,6 +8,9 @@ use std::ops::{BitAnd, BitOr, BitXor, Sub};
 /// How many members a page of a listing has at most.
 const PAGE: u32 = 65_536;
 
+/// The form of the empty set.
+const EMPTY: [u8; 6] = [1, 0, 0, 0, 0, 0];
+
 /// A set of positions below 2,097,152, held as its one written form: two bitmaps are equal, and have
 /// equal bytes, exactly if they have the same members.
 #[derive(Clone, PartialEq, Eq, Hash)]
@@ -19,7 +22,7 @@ pub struct Bitmap {
 impl Bitmap {
     /// The set that these bytes stand for, whoever wrote them. Refusals 1 to 11.
     pub fn from_bytes(bytes: &[u8]) -> Result<Bitmap, Refusal> {
-        combined(Operation::Union, bytes, bytes).map(Bitmap::of_form)
+        combined(Operation::Union, bytes, &EMPTY).map(Bitmap::of_form)
     }
 
     /// The set of these strictly rising positions. Refusal 12.
