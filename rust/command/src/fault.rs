@@ -64,8 +64,11 @@ impl Fault {
 }
 
 /// A file's name for a line of output: its bytes, with control characters as `\xNN`, so that the line
-/// stays a line.
+/// stays a line; quotes where it is empty.
 pub fn shown(name: &OsStr) -> Vec<u8> {
+    if name.is_empty() {
+        return b"''".to_vec();
+    }
     let mut shown = Vec::with_capacity(name.len());
     for byte in name.as_bytes() {
         match byte {
@@ -78,5 +81,8 @@ pub fn shown(name: &OsStr) -> Vec<u8> {
 
 /// A word of the command line in quotes, for a fault.
 pub fn quoted(word: &OsStr) -> String {
-    format!("'{}'", String::from_utf8_lossy(&shown(word)))
+    match word.is_empty() {
+        true => "''".to_string(),
+        false => format!("'{}'", String::from_utf8_lossy(&shown(word))),
+    }
 }

@@ -21,6 +21,7 @@ use arguments::{Arguments, Choice};
 use console::Console;
 use fault::{quoted, Outcome};
 use std::env;
+use std::ffi::OsStr;
 use std::process::ExitCode;
 
 fn main() -> ExitCode {
@@ -69,7 +70,10 @@ fn without_verb(arguments: &Arguments, console: &mut Console, helped: bool) -> O
         }
         None if on_stores => arguments.wrong("put, fetch, drop or list is missing".to_string()),
         None => arguments.wrong("a verb is missing".to_string()),
-        Some(word) if on_stores => arguments.wrong(format!("no verb 'store' {}", quoted(word))),
+        Some(word) if on_stores => {
+            let both = [OsStr::new("store"), word].join(OsStr::new(" "));
+            arguments.wrong(format!("no verb {}", quoted(&both)))
+        }
         Some(word) => arguments.wrong(format!("no verb {}", quoted(word))),
     }
 }

@@ -6,12 +6,17 @@ use crate::source::is_standard;
 use std::ffi::OsStr;
 use std::fs::{self, File, Metadata, OpenOptions};
 use std::io::{self, Write};
+use std::os::unix::ffi::OsStrExt;
 use std::os::unix::fs::{fchown, MetadataExt, OpenOptionsExt, PermissionsExt};
 use std::path::{Path, PathBuf};
 use std::process;
 
 /// How many links are followed from a name to its file.
 const LINKS: usize = 40;
+
+/// The system's numbers for a file that is not there, and for a folder.
+const ABSENT: i32 = 2;
+const FOLDER: i32 = 21;
 
 /// The name of an output in a fault.
 pub fn name(word: &OsStr) -> Vec<u8> {
@@ -34,11 +39,14 @@ pub fn write(console: &mut Console, word: &OsStr, bytes: &[u8]) -> Outcome<()> {
 /// The file holds the bytes, or on a fault what it held before. A device or pipe is written to.
 fn replace(path: &Path, bytes: &[u8]) -> io::Result<()> {
     let old = match fs::metadata(path) {
-        Ok(old) if old.is_dir() => return Err(io::ErrorKind::IsADirectory.into()),
+        Ok(old) if old.is_dir() => return Err(io::Error::from_raw_os_error(FOLDER)),
         Ok(old) if !old.is_file() => {
             return OpenOptions::new().write(true).open(path)?.write_all(bytes);
         }
         Ok(old) => Some(old),
+        Err(_) if path.as_os_str().as_bytes().ends_with(b"/") => {
+            return Err(io::Error::from_raw_os_error(FOLDER));
+        }
         Err(error) if error.kind() == io::ErrorKind::NotFound => None,
         Err(error) => return Err(error),
     };
@@ -60,7 +68,7 @@ fn behind_links(path: &Path) -> io::Result<PathBuf> {
         match fs::read_link(&path) {
             Ok(target) => path = path.parent().unwrap_or(Path::new("")).join(target),
             Err(_) if path.file_name().is_some() => return Ok(path),
-            Err(_) => return Err(io::ErrorKind::InvalidInput.into()),
+            Err(_) => return Err(io::Error::from_raw_os_error(ABSENT)),
         }
     }
     Err(io::Error::other("too many symbolic links"))

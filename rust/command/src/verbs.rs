@@ -21,8 +21,9 @@ const FORM_ROOM: (Choice, &str) =
     (Choice::Room, "--room BYTES        the form must fit into so many bytes, else refusal 13");
 const STORE_ROOM: (Choice, &str) = (
     Choice::Room,
-    "--room BYTES        the length of the store's buffer, half of it for each owner: what it held\n                        \
-     must fit, else refusal 42, and what is put, else 13 (default: any store fits)",
+    "--room BYTES        the length of the store's buffer, half of it for each owner: what the\n\
+     \x20                       store held must fit, else refusal 42, and what is put, else 13\n\
+     \x20                       (default: any store fits)",
 );
 const OWNER: (Choice, &str) = (
     Choice::Owner,
@@ -115,7 +116,7 @@ pub const VERBS: [Verb; 16] = [
         name: "symmetric-difference",
         operands: "FILE FILE... -o OUT",
         summary: "write the bitmap of what is in one of two",
-        details: COMBINED,
+        details: "Several inputs are combined one after the other, from the left: what is in an odd number of them.",
         options: &[OUTPUT, FORM_ROOM],
         run: combine::symmetric_difference,
     },
