@@ -141,17 +141,18 @@ impl Lines<'_> {
             self.line += 1;
             let word = text.trim_ascii();
             match whole(word) {
-                _ if text.len() > LINE => return self.wrong(b"a line this long"),
+                _ if text.len() > LINE => return self.wrong(format!("over {LINE} bytes")),
                 Some(position) => return Ok(Some(u32::try_from(position).unwrap_or(u32::MAX))),
                 None if word.is_empty() => {}
-                None => return self.wrong(word),
+                None => {
+                    let word = quoted(OsStr::from_bytes(word));
+                    return self.wrong(format!("{word} is no position"));
+                }
             }
         }
     }
 
-    fn wrong<T>(&self, word: &[u8]) -> Outcome<T> {
-        let words =
-            format!("line {}: {} is no position", self.line, quoted(OsStr::from_bytes(word)));
-        Err(Fault::File(source::name(self.input), words))
+    fn wrong<T>(&self, words: String) -> Outcome<T> {
+        Err(Fault::File(source::name(self.input), format!("line {}: {words}", self.line)))
     }
 }
