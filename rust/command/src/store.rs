@@ -8,6 +8,7 @@ use crate::fault::{quoted, Fault, Outcome};
 use crate::{source, target};
 use barcovento::{Refusal, Store};
 use std::ffi::OsStr;
+use std::fs::File;
 use std::path::Path;
 
 pub fn put(arguments: &Arguments, console: &mut Console) -> Outcome<()> {
@@ -16,9 +17,10 @@ pub fn put(arguments: &Arguments, console: &mut Console) -> Outcome<()> {
     source::once(arguments, [file.as_os_str(), bitmap.as_os_str()].into_iter())?;
     let (slot, owner) = (arguments.operand(1, "a slot")?, owner(arguments)?.unwrap_or(0));
     let room = store_room(arguments)?;
+    let bytes = source::read(bitmap, source::BITMAP)?;
+    let _held = hold(file);
     let begins = !source::is_standard(file) && !exists(file);
     let mut store = if begins { Store::new(room) } else { load(file, room)? };
-    let bytes = source::read(bitmap, source::BITMAP)?;
     store.put(owner, slot, &bytes).map_err(|refusal| {
         let name = if refusal.fault().is_some() { bitmap } else { file };
         Fault::refused(source::name(name), &refusal)
@@ -46,7 +48,9 @@ pub fn drop_slot(arguments: &Arguments, console: &mut Console) -> Outcome<()> {
     arguments.count(&["STORE", "SLOT"], false)?;
     let file = &arguments.operands[0];
     let (slot, owner) = (arguments.operand(1, "a slot")?, owner(arguments)?.unwrap_or(0));
-    let mut store = load(file, store_room(arguments)?)?;
+    let room = store_room(arguments)?;
+    let _held = hold(file);
+    let mut store = load(file, room)?;
     store.remove(owner, slot).map_err(|refusal| Fault::refused(source::name(file), &refusal))?;
     target::write(console, file, &store.save())
 }
@@ -72,6 +76,11 @@ pub fn list(arguments: &Arguments, console: &mut Console) -> Outcome<()> {
         console.buffer.push(b'\n');
     }
     console.step()
+}
+
+/// Holds a store that will be changed.
+fn hold(file: &OsStr) -> Option<File> {
+    (!source::is_standard(file)).then(|| target::hold(file)).flatten()
 }
 
 /// Whether there is a file of this name, also one that cannot be read.

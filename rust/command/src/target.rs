@@ -51,14 +51,28 @@ fn replace(path: &Path, bytes: &[u8]) -> io::Result<()> {
         Err(error) => return Err(error),
     };
     let path = behind_links(path)?;
-    let folder = match path.parent() {
-        Some(folder) if !folder.as_os_str().is_empty() => folder,
-        _ => Path::new("."),
-    };
+    let folder = folder_of(&path);
     let beside = Beside::create(folder, old.as_ref())?;
     beside.fill(bytes, old.as_ref())?;
     beside.rename(&path)?;
     settle(folder)
+}
+
+/// The folder that the file is in.
+fn folder_of(path: &Path) -> &Path {
+    match path.parent() {
+        Some(folder) if !folder.as_os_str().is_empty() => folder,
+        _ => Path::new("."),
+    }
+}
+
+/// Holds the file's folder until the answer is dropped, so that of commands that change a file there one
+/// goes on and the others wait. Where a folder cannot be held nobody waits.
+pub fn hold(word: &OsStr) -> Option<File> {
+    let path = behind_links(Path::new(word)).ok()?;
+    let folder = File::open(folder_of(&path)).ok()?;
+    folder.lock().ok()?;
+    Some(folder)
 }
 
 /// The path behind symbolic links, so that they stay; there need be no file.

@@ -148,3 +148,16 @@ fn faults() {
     folder.fails(&["store", "list", SAVED, "--room", "5"], 2, line);
     assert_eq!(folder.names(), ["bad"]);
 }
+
+#[test]
+fn commands_that_change_a_store_wait_for_each_other() {
+    let folder = Folder::new();
+    let run = folder.shell(
+        "for slot in $(seq 0 31); do $B store put many $slot samples/zone.bitmap 2>>said & done; wait",
+    );
+    assert_eq!(run.status, 0);
+    assert_eq!(folder.get("said"), b"barcovento: creating many\n");
+    let slots: String = (0..32).map(|slot| format!("{slot}\t0\t3\t12\n")).collect();
+    folder.prints(&["store", "list", "many"], &format!("slot\towner\tmembers\tbytes\n{slots}"));
+    assert_eq!(folder.names(), ["many", "said"]);
+}

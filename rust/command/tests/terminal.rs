@@ -97,7 +97,7 @@ fn a_refusal_clears_the_line() {
     let Some(shown) = on_terminal(&folder, script) else { return };
     let cleared = format!("\rchecked 1 of 2\r{}\r", " ".repeat(14));
     let refused = "barcovento: bad: refused 1: 0 bytes, under 6\r\n";
-    assert_eq!(shown, [cleared.as_str(), refused].concat());
+    assert!(shown.contains(&[cleared.as_str(), refused].concat()), "{shown:?}");
 }
 
 #[test]
