@@ -1,7 +1,6 @@
 //! Whole numbers and decimals of any length as digits.
 
-/// Parts of a large number have nine digits.
-const PART: u64 = 1_000_000_000;
+use crate::digits::digits;
 
 /// Adds the number's digits.
 pub fn push_number(out: &mut Vec<u8>, number: u64) {
@@ -37,11 +36,11 @@ pub fn push_decimal(out: &mut Vec<u8>, number: i64, scale: u32) {
 /// Adds a decimal whose number without its point is big endian, two's complement, of any length.
 pub fn push_large_decimal(out: &mut Vec<u8>, bytes: &[u8], scale: u32) {
     let negative = bytes.first().is_some_and(|byte| byte & 0x80 != 0);
-    let digits = match bytes.len() {
+    let all = match bytes.len() {
         0..=16 => short_digits(bytes, negative),
-        _ => long_digits(magnitude(bytes, negative)),
+        _ => digits(&magnitude(bytes, negative)),
     };
-    push_pointed(out, negative, &digits, scale as usize);
+    push_pointed(out, negative, &all, scale as usize);
 }
 
 /// Adds sign, digits and point; at least one digit stands before the point.
@@ -68,7 +67,7 @@ fn short_digits(bytes: &[u8], negative: bool) -> Vec<u8> {
     number.unsigned_abs().to_string().into_bytes()
 }
 
-/// The number without its sign in parts of 32 bits, the low one first, without zeros at the high end.
+/// The number without its sign in parts of 32 bits, the low one first.
 fn magnitude(bytes: &[u8], negative: bool) -> Vec<u32> {
     let fill = if negative { 0xFF } else { 0 };
     let mut parts = Vec::with_capacity(bytes.len() / 4 + 1);
@@ -82,32 +81,7 @@ fn magnitude(bytes: &[u8], negative: bool) -> Vec<u32> {
         parts.push(part);
         carry = more;
     }
-    while parts.last() == Some(&0) {
-        parts.pop();
-    }
     parts
-}
-
-/// The digits of such a number, in time that grows with the square of its length.
-fn long_digits(mut parts: Vec<u32>) -> Vec<u8> {
-    let mut nines = Vec::new();
-    while !parts.is_empty() {
-        let mut rest = 0;
-        for part in parts.iter_mut().rev() {
-            let both = rest << 32 | u64::from(*part);
-            *part = (both / PART) as u32;
-            rest = both % PART;
-        }
-        nines.push(rest);
-        while parts.last() == Some(&0) {
-            parts.pop();
-        }
-    }
-    let mut digits = nines.pop().unwrap_or(0).to_string();
-    for nine in nines.iter().rev() {
-        digits.push_str(&format!("{nine:09}"));
-    }
-    digits.into_bytes()
 }
 
 #[cfg(test)]
@@ -178,7 +152,7 @@ mod tests {
                     bytes.push((seed >> 33) as u8);
                 }
                 let negative = bytes[0] & 0x80 != 0;
-                let long = long_digits(magnitude(&bytes, negative));
+                let long = digits(&magnitude(&bytes, negative));
                 assert_eq!(long, short_digits(&bytes, negative), "{bytes:?}");
             }
         }

@@ -8,6 +8,7 @@ mod check;
 mod combine;
 mod console;
 mod decimal;
+mod digits;
 mod fault;
 mod json;
 mod source;
