@@ -36,7 +36,26 @@ const ROWS: (Choice, &str) =
 const JSON: (Choice, &str) =
     (Choice::Json, "--json              a JSON array for each row, one to a line; no header line");
 
+const CHECKED: &str = "\
+Prints 'FILE: N members' for each bitmap, in the order of the files. A refused one is told on
+standard error, and the rest go on.";
+
+const ASKED: &str = "\
+Prints for each position a tab-separated line: the position, 'yes' or 'no', and how many members
+lie below it. A position is any number from 0 to 4294967295.";
+
+const WRITTEN: &str = "\
+Reads positions, one to a line; blank lines are skipped. They must be strictly rising and below
+2097152, else refusal 12.";
+
 const COMBINED: &str = "Several inputs are combined one after the other, from the left.";
+
+const ODD: &str = "\
+Several inputs are combined one after the other, from the left: what is in an odd number of them.";
+
+const PUT: &str = "\
+The slot holds the bitmap's written form in place of what it held. Where there is no file STORE, an
+empty store is begun. '-' reads the store from standard input and writes it to standard output.";
 
 const ROW_FORM: &str = "\
 The rows are tab-separated lines behind a header line with the columns' types. No value is 'null', a
@@ -50,8 +69,7 @@ pub const VERBS: [Verb; 16] = [
         name: "check",
         operands: "FILE...",
         summary: "tell how many members each bitmap has",
-        details: "Prints 'FILE: N members' for each bitmap, in the order of the files. A refused one is told on\n\
-                  standard error, and the rest go on.",
+        details: CHECKED,
         options: &[
             (Choice::Threads, "-j, --threads N     check by N threads (default 1)"),
             (Choice::Quiet, "-q, --quiet         tell refusals and faults alone"),
@@ -70,8 +88,7 @@ pub const VERBS: [Verb; 16] = [
         name: "ask",
         operands: "FILE POSITION...",
         summary: "tell whether positions are members, and their ranks",
-        details: "Prints for each position a tab-separated line: the position, 'yes' or 'no', and how many members\n\
-                  lie below it. A position is any number from 0 to 4294967295.",
+        details: ASKED,
         options: &[],
         run: bitmap::ask,
     },
@@ -79,8 +96,7 @@ pub const VERBS: [Verb; 16] = [
         name: "write",
         operands: "OUT",
         summary: "write the bitmap of positions on standard input",
-        details: "Reads positions, one to a line; blank lines are skipped. They must be strictly rising and below\n\
-                  2097152, else refusal 12.",
+        details: WRITTEN,
         options: &[
             (Choice::Input, "-i, --input FILE    read the positions from this file"),
             (Choice::Sort, "--sort              sort the positions and drop repeats first"),
@@ -116,7 +132,7 @@ pub const VERBS: [Verb; 16] = [
         name: "symmetric-difference",
         operands: "FILE FILE... -o OUT",
         summary: "write the bitmap of what is in one of two",
-        details: "Several inputs are combined one after the other, from the left: what is in an odd number of them.",
+        details: ODD,
         options: &[OUTPUT, FORM_ROOM],
         run: combine::symmetric_difference,
     },
@@ -124,8 +140,7 @@ pub const VERBS: [Verb; 16] = [
         name: "store put",
         operands: "STORE SLOT BITMAP",
         summary: "put a bitmap into a slot of a saved store",
-        details: "The slot holds the bitmap's written form in place of what it held. Where there is no file STORE,\n\
-                  an empty store is begun. '-' reads the store from standard input and writes it to standard output.",
+        details: PUT,
         options: &[OWNER, STORE_ROOM],
         run: store::put,
     },

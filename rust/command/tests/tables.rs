@@ -229,7 +229,7 @@ fn whole_numbers_and_times() {
 }
 
 #[test]
-fn decimals() {
+fn small_decimals() {
     let number = |number: i64| number.to_le_bytes();
     column_prints(
         &[14, 0, 18, 3],
@@ -241,6 +241,10 @@ fn decimals() {
             (&number(i64::MIN), "-9223372036854775.808", "\"-9223372036854775.808\""),
         ]),
     );
+}
+
+#[test]
+fn large_decimals() {
     column_prints(
         &[14, 0, 19, 0],
         "DECIMAL(19,0) NOT NULL",
