@@ -22,6 +22,8 @@ pub struct Console {
     pub buffer: Vec<u8>,
     out_terminal: bool,
     error_terminal: bool,
+    /// When lines are shown on a terminal, and how far the work is, the next time.
+    next: Instant,
     progress: Option<Progress>,
     status: u8,
 }
@@ -30,7 +32,6 @@ pub struct Console {
 struct Progress {
     done_word: &'static str,
     all: usize,
-    next: Instant,
     /// The length of what stands in the line now.
     shown: usize,
 }
@@ -43,6 +44,7 @@ impl Console {
             buffer: Vec::with_capacity(GATHERED + 4096),
             out_terminal: io::stdout().is_terminal(),
             error_terminal: io::stderr().is_terminal(),
+            next: Instant::now(),
             progress: None,
             status: 0,
         }
@@ -113,21 +115,21 @@ impl Console {
     }
 
     fn begin_after(&mut self, wait: Duration, done_word: &'static str, all: usize, tell: bool) {
-        let next = Instant::now() + wait;
-        self.progress = tell.then_some(Progress { done_word, all, next, shown: 0 });
+        self.next = Instant::now() + wait;
+        self.progress = tell.then_some(Progress { done_word, all, shown: 0 });
     }
 
-    /// That much of the work is done. Lines for a terminal are shown as often as that is told.
+    /// That much of the work is done. Now and then that is told, and lines for a terminal are shown.
     pub fn done(&mut self, done: usize) -> Outcome<()> {
         let now = Instant::now();
-        if self.progress.as_ref().is_none_or(|progress| now < progress.next) {
+        if now < self.next {
             return Ok(());
         }
+        self.next = now + PAUSE;
         if self.out_terminal {
             self.flush()?;
         }
         if let Some(progress) = &mut self.progress {
-            progress.next = now + PAUSE;
             let line = format!("{} {done} of {}", progress.done_word, progress.all);
             progress.shown = progress.shown.max(line.len());
             let _ = write!(io::stderr(), "\r{line}");

@@ -124,6 +124,8 @@ fn a_name_stays_in_its_line() {
     let folder = Folder::new();
     folder.put("two\nlines", &ZONE);
     folder.prints(&["check", "two\nlines"], "two\\x0alines: 3 members\n");
+    let run = folder.shell("name=$(printf 'a\\377'); cp samples/zone.bitmap $name; $B check $name");
+    assert_eq!((run.out.as_slice(), run.status), (b"a\xFF: 3 members\n".as_slice(), 0));
     folder.fails(&["check", "no\tfile"], 2, "no\\x09file: No such file or directory");
     folder.fails(&["check", ""], 2, "'': No such file or directory");
 }

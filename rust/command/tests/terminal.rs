@@ -85,6 +85,11 @@ fn check_tells_how_far_it_is() {
         String::from_utf8(folder.get("file")).unwrap(),
         "samples/zone.bitmap: 3 members\nslow: 3 members\nsamples/dense.bitmap: 32 members\n"
     );
+    // Lines come to a terminal, and nothing else where standard error is none.
+    let lines = "rm -f slow; mkfifo slow; (sleep 0.3; $B --version; sleep 0.3) >slow & \
+                 $B check samples/zone.bitmap slow samples/dense.bitmap 2>/dev/null";
+    let shown = on_terminal(&folder, lines).unwrap_or_default();
+    assert_eq!(shown, "samples/zone.bitmap: 3 members\r\nsamples/dense.bitmap: 32 members\r\n");
     let quick = on_terminal(&folder, "$B check samples/zone.bitmap >file").unwrap_or_default();
     assert_eq!(quick, "");
 }
