@@ -6,6 +6,7 @@ use crate::decimal::push_number;
 use crate::fault::{quoted, Fault, Outcome};
 use crate::{source, target};
 use barcovento::bitmap::{self, Listing, LONGEST_FORM, POSITIONS};
+use barcovento::Refusal;
 use std::ffi::OsStr;
 use std::io::{BufRead, BufReader, Read};
 use std::os::unix::ffi::OsStrExt;
@@ -74,12 +75,11 @@ pub fn write(arguments: &Arguments, console: &mut Console) -> Outcome<()> {
     let input = arguments.value(Choice::Input).unwrap_or(OsStr::new("-"));
     let gathered = gather(input, arguments.has(Choice::Sort))?;
     let mut form = vec![0; room];
-    let length = bitmap::write(&gathered.positions, &mut form).map_err(|refusal| match gathered
-        .wrong_line
-    {
+    let refused = |refusal: Refusal| match gathered.wrong_line {
         Some(line) => Fault::Refused(source::name(input), format!("line {line}: {refusal}")),
         None => Fault::refused(target::name(out), &refusal),
-    })?;
+    };
+    let length = bitmap::write(&gathered.positions, &mut form).map_err(refused)?;
     target::write(console, out, &form[..length])
 }
 
@@ -97,8 +97,8 @@ struct Gathered {
 
 /// The positions of an input, sorted if that is asked for.
 fn gather(input: &OsStr, sort: bool) -> Outcome<Gathered> {
-    let mut lines =
-        Lines { input, reader: BufReader::with_capacity(1 << 16, source::open(input)?), line: 0 };
+    let reader = BufReader::with_capacity(1 << 16, source::open(input)?);
+    let mut lines = Lines { input, reader, line: 0 };
     let mut gathered = Gathered { positions: Vec::new(), wrong_line: None };
     let mut members = vec![false; if sort { POSITIONS as usize } else { 0 }];
     while let Some(position) = lines.next_position()? {

@@ -12,7 +12,7 @@ use std::sync::atomic::{AtomicUsize, Ordering};
 use std::sync::mpsc::{self, Receiver, Sender};
 use std::thread;
 
-/// How many files a thread takes at once.
+/// How many files a thread takes at once at most.
 const AT_ONCE: usize = 16;
 
 /// No more threads than this are started.
@@ -83,31 +83,32 @@ fn by_threads(
     threads: usize,
 ) -> Outcome<()> {
     let next = AtomicUsize::new(0);
+    let at_once = (files.len() / (4 * threads)).clamp(1, AT_ONCE);
     thread::scope(|scope| {
         let (sender, receiver) = mpsc::channel();
         let mut started = 0;
         for _ in 0..threads {
             let (sender, next) = (sender.clone(), &next);
-            let work = move || work(files, next, &sender);
+            let work = move || work(files, at_once, next, &sender);
             started += usize::from(thread::Builder::new().spawn_scoped(scope, work).is_ok());
         }
         if started == 0 {
-            work(files, &next, &sender);
+            work(files, at_once, &next, &sender);
         }
         drop(sender);
         tell_all(console, files, quiet, InOrder::new(receiver))
     })
 }
 
-/// Judges the next files until none is left, or nobody takes the answers.
-fn work(files: &[OsString], next: &AtomicUsize, sender: &Sender<Taken>) {
+/// Judges the next files, so many at once, until none is left or nobody takes the answers.
+fn work(files: &[OsString], at_once: usize, next: &AtomicUsize, sender: &Sender<Taken>) {
     let mut buffer = Vec::new();
     loop {
-        let first = next.fetch_add(AT_ONCE, Ordering::Relaxed);
+        let first = next.fetch_add(at_once, Ordering::Relaxed);
         if first >= files.len() {
             return;
         }
-        let taken = &files[first..files.len().min(first + AT_ONCE)];
+        let taken = &files[first..files.len().min(first + at_once)];
         let answers = taken.iter().map(|file| judge(file, &mut buffer)).collect();
         if sender.send((first, answers)).is_err() {
             return;

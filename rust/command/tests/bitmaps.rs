@@ -233,3 +233,14 @@ fn write_keeps_to_the_room() {
     let line = "barcovento: 'x' is no number for bytes of room; try 'barcovento write --help'\n";
     assert_eq!((run.status, run.err.as_str()), (2, line));
 }
+
+#[test]
+fn threads_work_side_by_side() {
+    let folder = Folder::new();
+    // The second pipe is filled first: one thread alone would wait for the first one for ever.
+    let run = folder.shell(
+        "mkfifo one two; (cat samples/zone.bitmap >two; cat samples/dense.bitmap >one) & \
+         $B check -j2 one two; wait",
+    );
+    assert_eq!((run.text().as_str(), run.status), ("one: 32 members\ntwo: 3 members\n", 0));
+}
