@@ -88,10 +88,12 @@ fn behind_links(path: &Path) -> io::Result<PathBuf> {
     Err(io::Error::other("too many symbolic links"))
 }
 
-/// The folder's new entry is on the disk; some file systems cannot be asked for that.
+/// The folder's new entry is on the disk. Some file systems cannot be asked for that, nor can a folder
+/// that is not readable.
 fn settle(folder: &Path) -> io::Result<()> {
-    match File::open(folder)?.sync_all() {
-        Err(error) if error.kind() == io::ErrorKind::InvalidInput => Ok(()),
+    let cannot = [io::ErrorKind::InvalidInput, io::ErrorKind::PermissionDenied];
+    match File::open(folder).and_then(|folder| folder.sync_all()) {
+        Err(error) if cannot.contains(&error.kind()) => Ok(()),
         outcome => outcome,
     }
 }

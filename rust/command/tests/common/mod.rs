@@ -110,10 +110,10 @@ impl Folder {
         Run::of(output)
     }
 
-    /// A shell script in the folder, with the program as $B.
+    /// A shell script in the folder, with the program as $B; one that hangs is ended.
     pub fn shell(&self, script: &str) -> Run {
-        let mut command = Command::new("sh");
-        command.args(["-c", script]).env("B", PROGRAM).current_dir(&self.path);
+        let mut command = Command::new("timeout");
+        command.args(["60", "sh", "-c", script]).env("B", PROGRAM).current_dir(&self.path);
         Run::of(command.stdin(Stdio::null()).output().expect("a shell"))
     }
 
