@@ -26,6 +26,11 @@ fn on_terminal(folder: &Folder, script: &str) -> Option<String> {
     }
 }
 
+/// Whether short work shows nothing on a terminal, in one of some runs: on a busy machine it may be long.
+fn says_nothing(folder: &Folder, script: &str) -> bool {
+    (0..5).any(|_| on_terminal(folder, script).unwrap_or_default().is_empty())
+}
+
 #[test]
 fn a_closed_pipe_ends_quietly() {
     let folder = folder();
@@ -90,8 +95,7 @@ fn check_tells_how_far_it_is() {
                  $B check samples/zone.bitmap slow samples/dense.bitmap 2>/dev/null";
     let shown = on_terminal(&folder, lines).unwrap_or_default();
     assert_eq!(shown, "samples/zone.bitmap: 3 members\r\nsamples/dense.bitmap: 32 members\r\n");
-    let quick = on_terminal(&folder, "$B check samples/zone.bitmap >file").unwrap_or_default();
-    assert_eq!(quick, "");
+    assert!(says_nothing(&folder, "$B check samples/zone.bitmap >file"));
 }
 
 #[test]
@@ -115,6 +119,5 @@ fn long_printing_tells_how_far_it_is() {
     assert!(shown.contains(" of 2097152\r"), "{shown:?}");
     assert!(shown.ends_with(" \r"), "{shown:?}");
     assert_eq!(folder.get("listed").len(), folder.run(&["list", "full"]).out.len());
-    let quick = on_terminal(&folder, "$B list full >listed").unwrap_or_default();
-    assert_eq!(quick, "");
+    assert!(says_nothing(&folder, "$B list full >listed"));
 }
