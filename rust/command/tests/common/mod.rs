@@ -43,15 +43,24 @@ impl Run {
     }
 }
 
+/// Copies the files of a folder, not its folders.
+fn copy_files(from: &Path, to: &Path) {
+    fs::create_dir_all(to).expect("a folder");
+    for entry in fs::read_dir(from).expect("a folder") {
+        let path = entry.expect("an entry").path();
+        if path.is_file() {
+            fs::copy(&path, to.join(path.file_name().expect("a name"))).expect("a copy");
+        }
+    }
+}
+
 impl Folder {
     pub fn new() -> Folder {
         let number = FOLDERS.fetch_add(1, Ordering::Relaxed);
         let name = format!("barcovento-command-{}-{number}", process::id());
         let path = std::env::temp_dir().join(name);
-        fs::create_dir_all(path.join("samples")).expect("a folder");
-        for sample in fs::read_dir(Path::new(REPOSITORY).join("samples")).expect("samples") {
-            let sample = sample.expect("a sample");
-            fs::copy(sample.path(), path.join("samples").join(sample.file_name())).expect("a copy");
+        for folder in ["samples", "samples/refused"] {
+            copy_files(&Path::new(REPOSITORY).join(folder), &path.join(folder));
         }
         Folder { path }
     }
