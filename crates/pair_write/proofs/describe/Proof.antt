@@ -1,4 +1,3 @@
-use Rattle.pair_write.proofs.Skipping.{cleared, cleared-length, desc-over, empty-first, first-past, second-past, zeros-past, zeros-end}
 -- The invariant: the descriptors of the containers passed; at and bt are where the next two lie.
 -- Assumes nothing.
 use mathlib.Core.Path.{_≡_, refl, sym, ap, _∙_}
@@ -14,6 +13,8 @@ use Rattle.form_write.proofs.Cells.{no-descs}
 use Rattle.pair_write.specs.Sides.{placeAt, result}
 use Rattle.pair_write.proofs.Pairs.{place-start, place-next, side-room, side-ok}
 use Rattle.pair_write.proofs.Result.{next-cut}
+use Rattle.pair_write.proofs.Skipping.{cleared, cleared-length, desc-over, empty-first, first-past}
+use Rattle.pair_write.proofs.Skipping.{second-past, zeros-past, zeros-end}
 use Rattle.pair_write.proofs.describe.Statement.{statement}
 use Rattle.pair_write.proofs.describe.Tie as tie
 
@@ -39,13 +40,14 @@ clear-requires c κs =
 loop-holds : tie.Need-loop-holds Inv-loop μ-loop
 loop-holds c =
     let args = c .before .before .before .before .before .before .before .before .before .args in
-    let pre = c .before .before .before .before .before .before .before .before .before .pre in
-    (omega arith,
-        place-start _ _ (args .x) (pre .0 .first),
-        place-start _ _ (args .y) (pre .0 .second),
-        refl,
-        refl,
-        λ f h q. q)
+    let pre = c .before .before .before .before .before .before .before .before .before .pre in (
+      omega arith,
+      place-start _ _ (args .x) (pre .0 .first),
+      place-start _ _ (args .y) (pre .0 .second),
+      refl,
+      refl,
+      λ f h q. q,
+    )
 
 descriptor-at-requires : tie.Need-descriptor-at-requires Inv-loop μ-loop
 descriptor-at-requires c κs =
@@ -63,14 +65,14 @@ both-empty-requires c κs = search needs
 add-pass-empty : tie.Need-add-pass-empty Inv-loop μ-loop
 add-pass-empty c =
     let pre =
-        c .before .before .before .before .before .before .before .before .before .before .before .before .before .before .before .pre in
+    c .before .before .before .before .before .before .before .before .before .before .before .before .before .before .before .pre in
     let loop-test = c .before .before .before .before .loop-test in
     omega (arith, pre .1, loop-test .taken)
 
 pass-empty-requires : tie.Need-pass-empty-requires Inv-loop μ-loop
 pass-empty-requires c κs =
     let pre =
-        c .before .before .before .before .before .before .before .before .before .before .before .before .before .before .before .pre in
+    c .before .before .before .before .before .before .before .before .before .before .before .before .before .before .before .pre in
     let loop-test = c .before .before .before .before .loop-test in
     (pre .0 .first .long, pre .0 .second .long, omega (arith, loop-test .taken), pre .1)
 
@@ -80,27 +82,28 @@ loop-less c = omega (arith, c .pass-empty .ensures .0, c .pass-empty .ensures .1
 loop-again : tie.Need-loop-again Inv-loop μ-loop
 loop-again c =
     let args =
-        c .before .before .before .before .before .before .before .before .before .before .before .before .before .before .before .before .args in
+    c .before .before .before .before .before .before .before .before .before .before .before .before .before .before .before .before .args in
     let pre =
-        c .before .before .before .before .before .before .before .before .before .before .before .before .before .before .before .before .pre in
+    c .before .before .before .before .before .before .before .before .before .before .before .before .before .before .before .before .pre in
     let loop = c .before .before .before .before .before .before .loop in
     let descriptor-at = c .before .before .before .before .descriptor-at in
     let descriptor-at2 = c .before .before .before .descriptor-at2 in
     let z = c .before .before .both-empty .ensures (c .before .if1 .taken) in
     let e = empty-first _ _ _ _ (loop .k) _ (sym (descriptor-at .ensures) ∙ z .0) (sym (descriptor-at2 .ensures) ∙ z .1)
-            (c .pass-empty .ensures .2) in
-    let up : loop .k ≤ c .pass-empty .result = omega (arith, c .pass-empty .ensures .0) in
-    (c .pass-empty .ensures .1,
-        loop .inv .1 ∙ sym
-            (first-past (args .o) _ _ (args .x) _ _ (args .y) (pre .0) (loop .k) (c .pass-empty .result) up e),
-        loop .inv .2 ∙ sym
-            (second-past (args .o) _ _ (args .x) _ _ (args .y) (pre .0) (loop .k) (c .pass-empty .result) up e),
-        loop .inv .3,
-        loop .inv .4,
-        λ f h q.
-            loop .inv .5 f h q ∙ ap (λ (s : List ℕ). written f 0 s)
-                (zeros-past (args .o) _ _ (args .x) _ _ (args .y) (pre .0) (loop .k) (c .pass-empty .result) up e
-                     (args .n) (c .pass-empty .ensures .1)))
+    (c .pass-empty .ensures .2) in
+    let up : loop .k ≤ c .pass-empty .result = omega (arith, c .pass-empty .ensures .0) in (
+      c .pass-empty .ensures .1,
+      loop .inv .1 ∙ sym
+          (first-past (args .o) _ _ (args .x) _ _ (args .y) (pre .0) (loop .k) (c .pass-empty .result) up e),
+      loop .inv .2 ∙ sym
+          (second-past (args .o) _ _ (args .x) _ _ (args .y) (pre .0) (loop .k) (c .pass-empty .result) up e),
+      loop .inv .3,
+      loop .inv .4,
+      λ f h q.
+          loop .inv .5 f h q ∙ ap (λ (s : List ℕ). written f 0 s)
+          (zeros-past (args .o) _ _ (args .x) _ _ (args .y) (pre .0) (loop .k) (c .pass-empty .result) up e
+          (args .n) (c .pass-empty .ensures .1)),
+    )
 
 slice-aggregate-pair-count : tie.Need-slice-aggregate-pair-count Inv-loop μ-loop
 slice-aggregate-pair-count c =
@@ -110,17 +113,18 @@ slice-aggregate-pair-count c =
 pair-count-requires : tie.Need-pair-count-requires Inv-loop μ-loop
 pair-count-requires c κs =
     let args =
-        c .before .before .before .before .before .before .before .before .before .before .before .before .before .before .before .before .args in
+    c .before .before .before .before .before .before .before .before .before .before .before .before .before .before .before .before .args in
     let pre =
-        c .before .before .before .before .before .before .before .before .before .before .before .before .before .before .before .before .pre in
+    c .before .before .before .before .before .before .before .before .before .before .before .before .before .before .before .before .pre in
     let loop = c .before .before .before .before .before .before .loop in
     let descriptor-at = c .before .before .before .before .descriptor-at in
-    let descriptor-at2 = c .before .before .before .descriptor-at2 in
-    (rw (descriptor-at .ensures) (side-room _ _ (args .x) (pre .0 .first) (loop .k) (loop .at) (loop .inv .1)),
-        rw (descriptor-at2 .ensures) (side-room _ _ (args .y) (pre .0 .second) (loop .k) (loop .bt) (loop .inv .2)),
-        omega (arith, loop .inv .4),
-        rw (descriptor-at .ensures) (side-ok _ _ (args .x) (pre .0 .first) (loop .k) (loop .at) (loop .inv .1)),
-        rw (descriptor-at2 .ensures) (side-ok _ _ (args .y) (pre .0 .second) (loop .k) (loop .bt) (loop .inv .2)))
+    let descriptor-at2 = c .before .before .before .descriptor-at2 in (
+      rw (descriptor-at .ensures) (side-room _ _ (args .x) (pre .0 .first) (loop .k) (loop .at) (loop .inv .1)),
+      rw (descriptor-at2 .ensures) (side-room _ _ (args .y) (pre .0 .second) (loop .k) (loop .bt) (loop .inv .2)),
+      omega (arith, loop .inv .4),
+      rw (descriptor-at .ensures) (side-ok _ _ (args .x) (pre .0 .first) (loop .k) (loop .at) (loop .inv .1)),
+      rw (descriptor-at2 .ensures) (side-ok _ _ (args .y) (pre .0 .second) (loop .k) (loop .bt) (loop .inv .2)),
+    )
 
 descriptor-requires : tie.Need-descriptor-requires Inv-loop μ-loop
 descriptor-requires c κs = search needs
@@ -128,19 +132,20 @@ descriptor-requires c κs = search needs
 slice-write-ds : tie.Need-slice-write-ds Inv-loop μ-loop
 slice-write-ds c =
     let args =
-        c .before .before .before .before .before .before .before .before .before .before .before .before .before .before .before .before .before .before .before .args in
+    c .before .before .before .before .before .before .before .before .before .before .before .before .before .before .before .before .before .before .before .args in
     let pre =
-        c .before .before .before .before .before .before .before .before .before .before .before .before .before .before .before .before .before .before .before .pre in
+    c .before .before .before .before .before .before .before .before .before .before .before .before .before .before .before .before .before .before .before .pre in
     let clear =
-        c .before .before .before .before .before .before .before .before .before .before .before .before .clear in
+    c .before .before .before .before .before .before .before .before .before .before .before .before .clear in
     let inv = c .before .before .before .before .before .before .before .before .before .loop .inv in
     let loop-test = c .before .before .before .before .before .before .before .before .loop-test in
-    omega
-        (arith,
-            loop-test .taken,
-            inv .3,
-            pre .2,
-            cleared-length (args .ds .now) _ 0 (args .n) (omega arith) (pre .2) (clear .ensures))
+    omega (
+      arith,
+      loop-test .taken,
+      inv .3,
+      pre .2,
+      cleared-length (args .ds .now) _ 0 (args .n) (omega arith) (pre .2) (clear .ensures),
+    )
 
 size-of-requires : tie.Need-size-of-requires Inv-loop μ-loop
 size-of-requires c κs = search needs
@@ -148,18 +153,19 @@ size-of-requires c κs = search needs
 add-at : tie.Need-add-at Inv-loop μ-loop
 add-at c =
     let args =
-        c .before .before .before .before .before .before .before .before .before .before .before .before .before .before .before .before .before .before .before .before .args in
+    c .before .before .before .before .before .before .before .before .before .before .before .before .before .before .before .before .before .before .before .before .args in
     let good =
-        c .before .before .before .before .before .before .before .before .before .before .before .before .before .before .before .before .before .before .before .before .good in
+    c .before .before .before .before .before .before .before .before .before .before .before .before .before .before .before .before .before .before .before .before .good in
     let pre =
-        c .before .before .before .before .before .before .before .before .before .before .before .before .before .before .before .before .before .before .before .before .pre in
+    c .before .before .before .before .before .before .before .before .before .before .before .before .before .before .before .before .before .before .before .before .pre in
     let loop = c .before .before .before .before .before .before .before .before .before .before .loop in
     let descriptor-at = c .before .before .before .before .before .before .before .before .descriptor-at in
-    omega
-        (arith,
-            good .1 .0,
-            side-room _ _ (args .x) (pre .0 .first) (loop .k) (loop .at) (loop .inv .1),
-            c .size-of .ensures ∙ ap sizeOf (descriptor-at .ensures))
+    omega (
+      arith,
+      good .1 .0,
+      side-room _ _ (args .x) (pre .0 .first) (loop .k) (loop .at) (loop .inv .1),
+      c .size-of .ensures ∙ ap sizeOf (descriptor-at .ensures),
+    )
 
 size-of-requires-2 : tie.Need-size-of-requires-2 Inv-loop μ-loop
 size-of-requires-2 c κs = search needs
@@ -167,23 +173,24 @@ size-of-requires-2 c κs = search needs
 add-bt : tie.Need-add-bt Inv-loop μ-loop
 add-bt c =
     let args =
-        c .before .before .before .before .before .before .before .before .before .before .before .before .before .before .before .before .before .before .before .before .before .args in
+    c .before .before .before .before .before .before .before .before .before .before .before .before .before .before .before .before .before .before .before .before .before .args in
     let good =
-        c .before .before .before .before .before .before .before .before .before .before .before .before .before .before .before .before .before .before .before .before .before .good in
+    c .before .before .before .before .before .before .before .before .before .before .before .before .before .before .before .before .before .before .before .before .before .good in
     let pre =
-        c .before .before .before .before .before .before .before .before .before .before .before .before .before .before .before .before .before .before .before .before .before .pre in
+    c .before .before .before .before .before .before .before .before .before .before .before .before .before .before .before .before .before .before .before .before .before .pre in
     let loop = c .before .before .before .before .before .before .before .before .before .before .before .loop in
     let descriptor-at2 = c .before .before .before .before .before .before .before .before .descriptor-at2 in
-    omega
-        (arith,
-            good .1 .1 .1 .1 .0,
-            side-room _ _ (args .y) (pre .0 .second) (loop .k) (loop .bt) (loop .inv .2),
-            c .size-of2 .ensures ∙ ap sizeOf (descriptor-at2 .ensures))
+    omega (
+      arith,
+      good .1 .1 .1 .1 .0,
+      side-room _ _ (args .y) (pre .0 .second) (loop .k) (loop .bt) (loop .inv .2),
+      c .size-of2 .ensures ∙ ap sizeOf (descriptor-at2 .ensures),
+    )
 
 add-k : tie.Need-add-k Inv-loop μ-loop
 add-k c =
     let pre =
-        c .before .before .before .before .before .before .before .before .before .before .before .before .before .before .before .before .before .before .before .before .before .pre in
+    c .before .before .before .before .before .before .before .before .before .before .before .before .before .before .before .before .before .before .before .before .before .pre in
     let loop-test = c .before .before .before .before .before .before .before .before .before .before .loop-test in
     omega (arith, pre .1, loop-test .taken)
 
@@ -195,30 +202,31 @@ loop-less-2 c =
 loop-again-2 : tie.Need-loop-again-2 Inv-loop μ-loop
 loop-again-2 c =
     let args =
-        c .before .before .before .before .before .before .before .before .before .before .before .before .before .before .before .before .before .before .before .before .before .args in
+    c .before .before .before .before .before .before .before .before .before .before .before .before .before .before .before .before .before .before .before .before .before .args in
     let pre =
-        c .before .before .before .before .before .before .before .before .before .before .before .before .before .before .before .before .before .before .before .before .before .pre in
+    c .before .before .before .before .before .before .before .before .before .before .before .before .before .before .before .before .before .before .before .before .before .pre in
     let loop = c .before .before .before .before .before .before .before .before .before .before .before .loop in
     let loop-test = c .before .before .before .before .before .before .before .before .before .before .loop-test in
     let descriptor-at = c .before .before .before .before .before .before .before .before .before .descriptor-at in
     let descriptor-at2 = c .before .before .before .before .before .before .before .before .descriptor-at2 in
     let pair-count = c .before .before .before .before .pair-count in
     let made = pair-count .ensures ∙ sym
-            (ap length
-                 (next-cut (args .o) _ _ (args .x) _ _ (args .y) (pre .0) (loop .k) (loop .at) (loop .bt) _ _
-                      (loop .inv .1) (loop .inv .2) (descriptor-at .ensures) (descriptor-at2 .ensures))) in
-    (omega (arith, loop-test .taken),
-        place-next _ _ (args .x) (pre .0 .first) (loop .k) (loop .at) _ (loop .inv .1)
-            (c .before .size-of .ensures ∙ ap sizeOf (descriptor-at .ensures)),
-        place-next _ _ (args .y) (pre .0 .second) (loop .k) (loop .bt) _ (loop .inv .2)
-            (c .size-of2 .ensures ∙ ap sizeOf (descriptor-at2 .ensures)),
-        simp length-set (loop .inv .3),
-        pair-count .kept .1 .1 .1 .1 .1 .1 .1 .0 ∙ loop .inv .4,
-        λ f h q.
-            desc-over
-                (result (args .o) (args .a .now) (args .da .now) (args .x) (args .b .now) (args .db .now) (args .y)) f
-                (loop .ds) (args .n) (loop .k) _ (pair-count .result) (loop-test .taken) made
-                (c .before .before .descriptor .ensures) (loop .inv .5 f h q))
+    (ap length
+    (next-cut (args .o) _ _ (args .x) _ _ (args .y) (pre .0) (loop .k) (loop .at) (loop .bt) _ _
+    (loop .inv .1) (loop .inv .2) (descriptor-at .ensures) (descriptor-at2 .ensures))) in (
+      omega (arith, loop-test .taken),
+      place-next _ _ (args .x) (pre .0 .first) (loop .k) (loop .at) _ (loop .inv .1)
+          (c .before .size-of .ensures ∙ ap sizeOf (descriptor-at .ensures)),
+      place-next _ _ (args .y) (pre .0 .second) (loop .k) (loop .bt) _ (loop .inv .2)
+          (c .size-of2 .ensures ∙ ap sizeOf (descriptor-at2 .ensures)),
+      simp length-set (loop .inv .3),
+      pair-count .kept .1 .1 .1 .1 .1 .1 .1 .0 ∙ loop .inv .4,
+      λ f h q.
+          desc-over
+          (result (args .o) (args .a .now) (args .da .now) (args .x) (args .b .now) (args .db .now) (args .y)) f
+          (loop .ds) (args .n) (loop .k) _ (pair-count .result) (loop-test .taken) made
+          (c .before .before .descriptor .ensures) (loop .inv .5 f h q),
+    )
 
 same-length : tie.Need-same-length Inv-loop μ-loop
 same-length c =
@@ -235,17 +243,17 @@ returns c =
     let loop = c .before .loop in
     let end : loop .k ≡ args .n = omega (arith, c .loop-test .left, loop .inv .0) in
     let all = loop .inv .5 (args .ds .now) (pre .2)
-            (cleared
-                 (result (args .o) (args .a .now) (args .da .now) (args .x) (args .b .now) (args .db .now) (args .y))
-                 (args .ds .now) (args .ds .now) _ 0 (args .n) (omega arith) (pre .2)
-                 (no-descs
-                      (result (args .o) (args .a .now) (args .da .now) (args .x) (args .b .now) (args .db .now)
-                           (args .y))
-                       (args .ds .now))
-                  (clear .ensures))
-             ∙ zeros-end
-            (result (args .o) (args .a .now) (args .da .now) (args .x) (args .b .now) (args .db .now) (args .y))
-            (args .ds .now) (loop .k) (args .n) end in
+    (cleared
+    (result (args .o) (args .a .now) (args .da .now) (args .x) (args .b .now) (args .db .now) (args .y))
+    (args .ds .now) (args .ds .now) _ 0 (args .n) (omega arith) (pre .2)
+    (no-descs
+    (result (args .o) (args .a .now) (args .da .now) (args .x) (args .b .now) (args .db .now)
+    (args .y))
+    (args .ds .now))
+    (clear .ensures))
+    ∙ zeros-end
+    (result (args .o) (args .a .now) (args .da .now) (args .x) (args .b .now) (args .db .now) (args .y))
+    (args .ds .now) (loop .k) (args .n) end in
     rw end at all
 
 pub describe-spec : {M : Type 1} → statement M
