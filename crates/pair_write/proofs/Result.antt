@@ -77,12 +77,6 @@ module _ (o : Operation) (a da : List ℕ) (x : Side) (b db : List ℕ) (y : Sid
     pub next-cut : cut (result o a da x b db y) k ≡ pairMembers o a at d b bt e
     next-cut = rw (hd, he) (cut-pair k at bt p q)
 
-    pub next-desc : (before out : List ℕ) (t c : ℕ) → k < length before → c ≡ length (pairMembers o a at d b bt e)
-        → t ≡ min c 32 → out ≡ written before 0 (descsTo (result o a da x b db y) k)
-        → set out k t ≡ written before 0 (descsTo (result o a da x b db y) (k + 1))
-    next-desc before out t c h n m r =
-        desc-turn (result o a da x b db y) before out k t c h (n ∙ sym (ap length next-cut)) m r
-
     pub next-card : (card c : ℕ) → c ≡ length (pairMembers o a at d b bt e)
         → card ≡ length (keep (λ z. mem z (result o a da x b db y)) (from 0 (k * 256)))
         → card + c ≡ length (keep (λ z. mem z (result o a da x b db y)) (from 0 ((k + 1) * 256)))

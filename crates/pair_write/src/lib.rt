@@ -270,6 +270,11 @@ fn put_pair(
             return put_filtered(o, a, at, d, b, bt, e, out, to);
         }
     }
+    if e < 32 {
+        if !keeps_first(o) {
+            return put_filtered(o, b, bt, e, a, at, d, out, to);
+        }
+    }
     let c = join_pair(o, a, at, d, b, bt, e, out, to);
     if c < 32 {
         blocks::spread(out, to);

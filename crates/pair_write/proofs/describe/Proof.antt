@@ -13,8 +13,8 @@ use Rattle.form_write.proofs.Cells.{no-descs}
 use Rattle.pair_write.specs.Sides.{placeAt, result}
 use Rattle.pair_write.proofs.Pairs.{place-start, place-next, side-room, side-ok}
 use Rattle.pair_write.proofs.Result.{next-cut}
-use Rattle.pair_write.proofs.Skipping.{cleared, cleared-length, desc-over, empty-first, first-past}
-use Rattle.pair_write.proofs.Skipping.{second-past, zeros-past, zeros-end}
+use Rattle.pair_write.proofs.Skipping.{cleared, cleared-length, desc-over, empty-first}
+use Rattle.pair_write.proofs.Skipping.{first-past, second-past, zeros-past, zeros-end}
 use Rattle.pair_write.proofs.describe.Statement.{statement}
 use Rattle.pair_write.proofs.describe.Tie as tie
 
