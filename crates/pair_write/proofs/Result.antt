@@ -4,7 +4,7 @@
 use mathlib.Core.Path.{_≡_, refl, sym, ap, ap₂, _∙_}
 use mathlib.Core.Bool.{Bool, false}
 use mathlib.Core.List.{List, [], _++_, map, append-assoc}
-use Prim.Native.Nat.{ℕ, zero, suc, _+_, _*_, _≤_, _<_, min, max}
+use Prim.Native.Nat.{ℕ, zero, suc, _+_, _*_, _≤_, min, max}
 use native.Mathlib.Omega.{arith}
 use lib.ListN.{length, set, take}
 use lib.Seq.{length-take-le}
@@ -21,7 +21,7 @@ use Rattle.bitmap_laws.proofs.Output.{taken}
 use Rattle.bitmap_laws.proofs.Rise.{count-bound, rising-length, weaker}
 use Rattle.bitmap_laws.proofs.Sets.{mem-combine, set-combine, neither}
 use Rattle.form_write.specs.Described.{descsTo, Describes, Trimmed}
-use Rattle.form_write.proofs.Cells.{desc-length, desc-turn, card-more}
+use Rattle.form_write.proofs.Cells.{desc-length, card-more}
 use Rattle.form_write.proofs.Trimming.{cells-more, write-size, trim-long, trim-bytes, trim-describes}
 use Rattle.judge.specs.Post.{SliceView, viewed}
 use Rattle.bitmap_read.proofs.Held.{set-past}
