@@ -39,8 +39,9 @@ fn put_form(card: u32, ds: &[u8], body: &[u8], out: &mut [u8]) -> Written
         return Written::Refused(13);
     }
     let to = form_write::put_head(ds, card, out);
+    let len = to + body.len();
     byte_move::copy_part(body, 0, body.len(), out, to);
-    Written::Length(to + body.len())
+    Written::Length(len)
 }
 
 // Writes the form of the result by way of ds and body, which have room for n containers: nothing goes out before its

@@ -45,6 +45,20 @@ put-head-requires c κs =
       ),
     )
 
+add-len : tie.Need-add-len
+add-len c =
+    let args = c .before .before .before .before .before .before .before .before .before .args in
+    let good = c .before .before .before .before .before .before .before .before .before .good in
+    let fits2 = c .before .before .before .before .before .fits2 in
+    let if1 = c .before .before .before .before .if1 in
+    omega (
+      arith,
+      c .before .before .put-head .ensures .0,
+      fits-yes (args .ds .now) (length (args .body .now)) (length (args .out .now)) (fits2 .result)
+          (fits2 .ensures) (if1 .left),
+      good .1 .1 .1 .0,
+    )
+
 copy-part-requires : tie.Need-copy-part-requires
 copy-part-requires c κs =
     let f = c .before .before .before .before .before .before .before .before .before .before .pre .formed in let r =
@@ -66,23 +80,6 @@ copy-part-requires c κs =
           (c .before .before .before .before .before .if1 .left),
     ))
     in (omega arith, omega (arith, ap length (f .bytes), r, c .before .before .before .put-head .kept .1 .1 .0))
-
-add-t8 : tie.Need-add-t8
-add-t8 c =
-    let args =
-    c .before .before .before .before .before .before .before .before .before .before .before .before .before .args in
-    let good =
-    c .before .before .before .before .before .before .before .before .before .before .before .before .before .good in
-    let fits2 = c .before .before .before .before .before .before .before .before .before .fits2 in
-    let if1 = c .before .before .before .before .before .before .before .before .if1 in
-    let put-head = c .before .before .before .before .before .before .put-head in
-    omega (
-      arith,
-      put-head .ensures .0,
-      fits-yes (args .ds .now) (length (args .body .now)) (length (args .out .now)) (fits2 .result)
-          (fits2 .ensures) (if1 .left),
-      good .1 .1 .1 .0,
-    )
 
 same-length : tie.Need-same-length
 same-length c = search needs
@@ -129,7 +126,7 @@ put-form-spec =
     fits-requires
     returns
     put-head-requires
+    add-len
     copy-part-requires
-    add-t8
     same-length
     returns-2)
