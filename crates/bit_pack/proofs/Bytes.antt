@@ -31,7 +31,7 @@ unfolding packed
 packed-zero f p zero h = refl
 packed-zero f p (suc w) h = rw (packed-zero f p w (λ j l. h j (omega arith)), h w (omega arith))
 
-spare : (f : ℕ → ℕ) (w n p : ℕ) → n * w ≤ p → valueBit f w n p ≡ 0
+pub spare : (f : ℕ → ℕ) (w n p : ℕ) → n * w ≤ p → valueBit f w n p ≡ 0
 unfolding valueBit
 spare f w n p h = rw (le-ltb _ _ h)
 

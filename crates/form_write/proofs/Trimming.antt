@@ -109,7 +109,7 @@ unfolding writeContainers
 no-cells l = rw (from-none 0)
 
 -- empty containers at the end take no bytes
-cells-trim : (l : List ℕ) (m j : ℕ) → ((k : ℕ) → m ≤ k → k < m + j → length (cut l k) ≡ 0)
+pub cells-trim : (l : List ℕ) (m j : ℕ) → ((k : ℕ) → m ≤ k → k < m + j → length (cut l k) ≡ 0)
     → writeContainers (map (cut l) (from 0 (m + j))) ≡ writeContainers (map (cut l) (from 0 m))
 cells-trim l m zero h = rw (add-zero m)
 cells-trim l m (suc j) h =

@@ -1,9 +1,12 @@
 -- Containers put behind one another, and header and chunks before them: the form, and all else as it was.
 -- Assumes nothing.
 use mathlib.Core.Path.{_≡_, refl, sym, ap, _∙_}
+use mathlib.Core.Bool.{Bool, true, false, not}
 use mathlib.Core.List.{List, _++_, map}
-use Prim.Native.Nat.{ℕ, _+_, _/_, _≤_}
+use Prim.Native.Nat.{ℕ, _+_, _*_, _/_, _≤_, _<_}
 use native.Mathlib.Omega.{arith}
+use borrow.Author.Tests.{leb-true, leb-false, le-leb, not-true, not-false}
+use lib.Dec.{leb}
 use lib.ListN.{replicate, length-replicate, length, take, drop, length-append}
 use lib.Seq.{take-all}
 use Rattle.common.specs.Lists.{from, sum}
@@ -11,7 +14,9 @@ use Rattle.bitmap_spec.specs.Judge.{sizeOf}
 use Rattle.bitmap_spec.specs.Form.{form, cut, writeChunks, writeContainers}
 use Rattle.bitmap_spec.specs.Output.{written, placed, Gives}
 use Rattle.bitmap_spec.specs.declared.Written.the-variants.{Length}
+use Rattle.bitmap_laws.proofs.Length.{chunks-size}
 use Rattle.bitmap_laws.proofs.Output.{written-cat, written-none, give}
+use Rattle.bitmap_laws.proofs.Values.{AllLe}
 use Rattle.bitmap_laws.proofs.Round.{header, six-is}
 use Rattle.byte_move.proofs.Moves.{written-before, written-over, read-back}
 use Rattle.form_write.specs.Described.{descsTo, Describes}
@@ -21,7 +26,7 @@ use Rattle.pair_write.specs.declared.Reached.{Reached}
 use Rattle.pair_write.specs.declared.Side.{Side}
 use Rattle.pair_write.proofs.Passing.{cells-sum}
 use Rattle.form_write.proofs.Trimming.{no-cells}
-use Rattle.pair_place.specs.Forms.{Passed}
+use Rattle.pair_place.specs.Forms.{FormOf, Passed}
 
 -- room in an array of zeros
 pub room : (n m : ℕ) → n ≤ m → n ≤ length {A = ℕ} (replicate m 0)
@@ -85,3 +90,22 @@ module _ (l : List ℕ) (n card : ℕ) (ds : List ℕ) (d : Describes l n card d
       give (form l) before o2 len room (all-parts l n card ds d before (written before 0 h) o2
       (6 + length (writeChunks (length ds / 256) ds)) room refl refl c)
       (el ∙ ap (λ (i : ℕ). 6 + length (writeChunks (length ds / 256) ds) + i) ek ∙ z)
+
+-- the containers take what their descriptors say
+pub body-size : (l : List ℕ) (card : ℕ) (ds body : List ℕ) → FormOf l card ds body → length body ≡ sum sizeOf ds
+body-size l card ds body f = ap length (f .bytes) ∙ sym (cells-sum l (length ds) card ds (f .describes))
+
+-- ---- what the test of room says
+module _ (ds : List ℕ) (size room : ℕ) (r : Bool)
+    (e : r ≡ leb (6 + length (writeChunks (length ds / 256) ds) + size) room) where
+  pub fits-yes : not r ≡ false → 6 + length (writeChunks (length ds / 256) ds) + size ≤ room
+  fits-yes h = leb-true (6 + length (writeChunks (length ds / 256) ds) + size) room (sym e ∙ not-false r h)
+
+  pub fits-no : not r ≡ true → room < 6 + length (writeChunks (length ds / 256) ds) + size
+  fits-no h = leb-false (6 + length (writeChunks (length ds / 256) ds) + size) room (sym e ∙ not-true r h)
+
+pub fits-bound : (ds : List ℕ) (size room : ℕ) → AllLe 63 ds → 6 + 195 * ((length ds + 255) / 256) + size ≤ room
+    → true ≡ leb (6 + length (writeChunks (length ds / 256) ds) + size) room
+fits-bound ds size room a h =
+    sym (le-leb (6 + length (writeChunks (length ds / 256) ds) + size) room
+    (omega (arith, chunks-size (length ds / 256) ds a (omega arith) (omega arith))))

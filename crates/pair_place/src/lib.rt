@@ -4,6 +4,7 @@ ghost use mathlib.Core.Path.{_≡_};
 ghost use mathlib.Core.List.{_++_, map};
 ghost use Prim.Native.Nat.{_+_, _-_, _*_, _/_, _≤_, _<_, max, min};
 ghost use lib.ListN.{length, take, drop};
+ghost use lib.Dec.{leb};
 ghost use Rattle.common.specs.Lists.{from, sum};
 ghost use Rattle.bitmap_spec.specs.Judge.{sizeOf};
 ghost use Rattle.bitmap_spec.specs.Form.{form, cut, writeChunks, writeContainers};
@@ -17,16 +18,28 @@ use bitmap_spec::Written;
 use pair_write::Reached;
 use pair_write::Side;
 
+// Whether a form with these descriptors, whose containers take `size` bytes, has at most `room`. The chunks are measured
+// only where their bound does not tell: they are then gone through once, when they are written.
+fn fits(ds: &[u8], size: usize, room: usize) -> bool
+    requires { ⌜ (length (now ds) ≤ 8192) × AllLe 63 (now ds) × (size ≡ sum sizeOf (now ds)) ⌝ }
+    ensures { λ r. ⌜ r ≡ leb (6 + length (writeChunks (length (now (ds .entry)) / 256) (now (ds .entry))) + size) room ⌝ }
+{
+    if 6 + 195 * ((ds.len() + 255) / 256) + size <= room {
+        return true;
+    }
+    form_write::form_size(ds) <= room
+}
+
 // Writes the form of the set that has these descriptors, this cardinality and these containers, or refuses for room.
 fn put_form(card: u32, ds: &[u8], body: &[u8], out: &mut [u8]) -> Written
     requires { ⌜ Described card (now ds) (now body) ⌝ }
     ensures { λ r. ⌜ GivesForm card (now (ds .entry)) (now (body .entry)) (now (out .entry)) (now (out .exit)) r ⌝ }
 {
-    let len = form_write::form_size(ds);
-    if out.len() < len {
+    if !fits(ds, body.len(), out.len()) {
         return Written::Refused(13);
     }
     let to = form_write::put_head(ds, card, out);
+    let len = to + body.len();
     byte_move::copy_part(body, 0, body.len(), out, to);
     Written::Length(len)
 }

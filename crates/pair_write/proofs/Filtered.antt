@@ -30,6 +30,9 @@ use Rattle.bitmap_read.proofs.Containers.{container-up, sparse-is}
 use Rattle.pair_write.specs.Sides.{pairHolds, pairMembers, wantOf, kept}
 use Rattle.pair_write.proofs.Alone.{second-lost}
 
+true-false : true ≡ false → ⊥
+true-false e = let z : _≡_ {A = ℕ} 0 1 = cc in omega arith
+
 -- ---- one member more
 pub byte-le : (b : Bool) → boolByte b ≤ 1
 byte-le true = omega arith
@@ -154,3 +157,26 @@ pub filtered-put : (p k before out : List ℕ) (to r n : ℕ) → p ≡ k → n 
 filtered-put p k before out to r n e h q =
     let s : writeContainer k ≡ k = short k (omega (arith, q .0, q .1)) in
     rw (e, s, ← (q .0)) (refl, omega (arith, q .1), q .2)
+
+-- ---- the sides turned
+-- an operation that keeps nothing of the first alone does not tell its sides apart
+turned : (o : Operation) → holds o true false ≡ false → (x y : Bool) → holds o x y ≡ holds o y x
+turned Union e x y = absurd (true-false e)
+turned Intersection e true true = refl
+turned Intersection e true false = refl
+turned Intersection e false true = refl
+turned Intersection e false false = refl
+turned Difference e x y = absurd (true-false e)
+turned SymmetricDifference e x y = absurd (true-false e)
+
+pub turned-second : (o : Operation) → holds o true false ≡ false → holds o false true ≡ false
+turned-second o e = turned o e false true ∙ e
+
+pub turned-members : (o : Operation) → holds o true false ≡ false
+    → (a : List ℕ) (at d : ℕ) (b : List ℕ) (bt e : ℕ)
+    → pairMembers o a at d b bt e ≡ pairMembers o b bt e a at d
+unfolding pairMembers pairHolds
+turned-members o h a at d b bt e =
+    keep-same (λ j. holds o (mem j (container a at d)) (mem j (container b bt e)))
+    (λ j. holds o (mem j (container b bt e)) (mem j (container a at d))) 0 256
+    (λ i l. turned o h (mem (0 + i) (container a at d)) (mem (0 + i) (container b bt e)))

@@ -4,4 +4,5 @@ pub mod Joined
 pub mod Pairs
 pub mod Passing
 pub mod Result
+pub mod Skipping
 pub mod Sources

@@ -4,7 +4,7 @@
 use mathlib.Core.Path.{_≡_, refl, sym, ap, ap₂, _∙_}
 use mathlib.Core.Bool.{Bool, false}
 use mathlib.Core.List.{List, [], _++_, map, append-assoc}
-use Prim.Native.Nat.{ℕ, zero, suc, _+_, _*_, _≤_, _<_, min, max}
+use Prim.Native.Nat.{ℕ, zero, suc, _+_, _*_, _≤_, min, max}
 use native.Mathlib.Omega.{arith}
 use lib.ListN.{length, set, take}
 use lib.Seq.{length-take-le}
@@ -21,7 +21,7 @@ use Rattle.bitmap_laws.proofs.Output.{taken}
 use Rattle.bitmap_laws.proofs.Rise.{count-bound, rising-length, weaker}
 use Rattle.bitmap_laws.proofs.Sets.{mem-combine, set-combine, neither}
 use Rattle.form_write.specs.Described.{descsTo, Describes, Trimmed}
-use Rattle.form_write.proofs.Cells.{desc-length, desc-turn, card-more}
+use Rattle.form_write.proofs.Cells.{desc-length, card-more}
 use Rattle.form_write.proofs.Trimming.{cells-more, write-size, trim-long, trim-bytes, trim-describes}
 use Rattle.judge.specs.Post.{SliceView, viewed}
 use Rattle.bitmap_read.proofs.Held.{set-past}
@@ -76,12 +76,6 @@ module _ (o : Operation) (a da : List ℕ) (x : Side) (b db : List ℕ) (y : Sid
       (he : e ≡ descAt db (y .count) k) where
     pub next-cut : cut (result o a da x b db y) k ≡ pairMembers o a at d b bt e
     next-cut = rw (hd, he) (cut-pair k at bt p q)
-
-    pub next-desc : (before out : List ℕ) (t c : ℕ) → k < length before → c ≡ length (pairMembers o a at d b bt e)
-        → t ≡ min c 32 → out ≡ written before 0 (descsTo (result o a da x b db y) k)
-        → set out k t ≡ written before 0 (descsTo (result o a da x b db y) (k + 1))
-    next-desc before out t c h n m r =
-        desc-turn (result o a da x b db y) before out k t c h (n ∙ sym (ap length next-cut)) m r
 
     pub next-card : (card c : ℕ) → c ≡ length (pairMembers o a at d b bt e)
         → card ≡ length (keep (λ z. mem z (result o a da x b db y)) (from 0 (k * 256)))

@@ -3,8 +3,8 @@
 ghost use mathlib.Core.Path.{_≡_};
 ghost use mathlib.Core.Bool.{true, false};
 ghost use mathlib.Core.List.{_++_};
-ghost use Prim.Native.Nat.{_+_, _≤_, _<_, max, min};
-ghost use lib.ListN.{length, take};
+ghost use Prim.Native.Nat.{ℕ, _+_, _-_, _≤_, _<_, max, min};
+ghost use lib.ListN.{length, take, replicate};
 ghost use Rattle.common.specs.Lists.{keep, from};
 ghost use Rattle.bitmap_spec.specs.Judge.{sizeOf, container, containerOk};
 ghost use Rattle.bitmap_spec.specs.Form.{writeContainer};
@@ -48,6 +48,16 @@ pub fn larger(m: usize, n: usize) -> usize
         return n;
     }
     m
+}
+
+// The smaller of two numbers.
+fn smaller(m: usize, n: usize) -> usize
+    ensures { λ r. ⌜ r ≡ min m n ⌝ }
+{
+    if m < n {
+        return m;
+    }
+    n
 }
 
 // Joins the block of a at `at` with a container of b, as a block at out[to], and says how many members it has.
@@ -260,6 +270,11 @@ fn put_pair(
             return put_filtered(o, a, at, d, b, bt, e, out, to);
         }
     }
+    if e < 32 {
+        if !keeps_first(o) {
+            return put_filtered(o, b, bt, e, a, at, d, out, to);
+        }
+    }
     let c = join_pair(o, a, at, d, b, bt, e, out, to);
     if c < 32 {
         blocks::spread(out, to);
@@ -276,6 +291,60 @@ fn descriptor(n: u32) -> u8
         return n as u8;
     }
     32
+}
+
+// How many of the eight containers from i on are seen to be empty, in order: all where there are no more descriptors.
+fn empty_run(d: &[u8], m: usize, i: usize) -> usize
+    requires { ⌜ (m ≤ length (now d)) × (i ≤ 8192) ⌝ }
+    ensures { λ r. ⌜ (r ≤ 8) × ((j : ℕ) → j < r → descAt (now (d .entry)) m (i + j) ≡ 0) ⌝ }
+{
+    if i + 8 <= m {
+        return words::empty_bytes(d, i);
+    }
+    if m <= i {
+        return 8;
+    }
+    0
+}
+
+// Goes on from container k, up to n, past containers that are empty in both bitmaps, eight at a time: most containers of
+// a thin bitmap are empty.
+fn pass_empty(da: &[u8], m: usize, db: &[u8], p: usize, k: usize, n: usize) -> usize
+    requires { ⌜ (m ≤ length (now da)) × (p ≤ length (now db)) × (k ≤ n) × (n ≤ 8192) ⌝ }
+    ensures { λ r. ⌜ (k ≤ r) × (r ≤ n) × ((j : ℕ) → k ≤ j → j < r → (descAt (now (da .entry)) m j ≡ 0) × (descAt (now (db .entry)) p j ≡ 0)) ⌝ }
+{
+    let mut i = k;
+    while 8 <= n - i {
+        let t = smaller(empty_run(da, m, i), empty_run(db, p, i));
+        if t < 8 {
+            return i + t;
+        }
+        i += 8;
+    }
+    i
+}
+
+// Whether two containers are both empty.
+fn both_empty(d: u8, e: u8) -> bool
+    ensures { λ r. ⌜ (r ≡ true → (d ≡ 0) × (e ≡ 0)) ⌝ }
+{
+    if d == 0 {
+        return e == 0;
+    }
+    false
+}
+
+// Zeros from ds[k] up to ds[n].
+fn clear(ds: &mut [u8], k: usize, n: usize) -> usize
+    requires { ⌜ (k ≤ n) × (n ≤ length (now ds)) ⌝ }
+    ensures { λ r. ⌜ now (ds .exit) ≡ written (now (ds .entry)) k (replicate (n - k) 0) ⌝ }
+{
+    let mut i = k;
+    while i < n {
+        ds[i] = 0;
+        i += 1;
+    }
+    i
 }
 
 // Goes on from container `start` to container n: fills in their descriptors, and puts their bytes from body[0] on.
@@ -300,18 +369,23 @@ pub fn gather(
     let mut bt = p.bt;
     let mut card = p.card;
     let mut t: usize = 0;
+    clear(ds, start, n);
     let mut k = start;
     while k < n {
         let d = descriptor_at(da, x.count, k);
         let e = descriptor_at(db, y.count, k);
-        let c = put_pair(o, a, at, d, b, bt, e, body, t);
-        let m = descriptor(c);
-        ds[k] = m;
-        card += c;
-        t += m as usize;
-        at += judge::size_of(d);
-        bt += judge::size_of(e);
-        k += 1;
+        if both_empty(d, e) {
+            k = pass_empty(da, x.count, db, y.count, k + 1, n);
+        } else {
+            let c = put_pair(o, a, at, d, b, bt, e, body, t);
+            let m = descriptor(c);
+            ds[k] = m;
+            card += c;
+            t += m as usize;
+            at += judge::size_of(d);
+            bt += judge::size_of(e);
+            k += 1;
+        }
     }
     let size = p.size + t;
     Reached { card, size, at, bt }
@@ -366,15 +440,20 @@ pub fn describe(
     let mut made = [0u8; 32];
     let mut at = x.start;
     let mut bt = y.start;
+    clear(ds, 0, n);
     let mut k: usize = 0;
     while k < n {
         let d = descriptor_at(da, x.count, k);
         let e = descriptor_at(db, y.count, k);
-        let c = pair_count(o, a, at, d, b, bt, e, &mut made);
-        ds[k] = descriptor(c);
-        at += judge::size_of(d);
-        bt += judge::size_of(e);
-        k += 1;
+        if both_empty(d, e) {
+            k = pass_empty(da, x.count, db, y.count, k + 1, n);
+        } else {
+            let c = pair_count(o, a, at, d, b, bt, e, &mut made);
+            ds[k] = descriptor(c);
+            at += judge::size_of(d);
+            bt += judge::size_of(e);
+            k += 1;
+        }
     }
     k
 }

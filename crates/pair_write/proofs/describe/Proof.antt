@@ -1,17 +1,20 @@
 -- The invariant: the descriptors of the containers passed; at and bt are where the next two lie.
 -- Assumes nothing.
 use mathlib.Core.Path.{_≡_, refl, sym, ap, _∙_}
-use Prim.Native.Nat.{_-_, _≤_}
+use mathlib.Core.List.{List, _++_}
+use Prim.Native.Nat.{ℕ, _-_, _≤_}
 use native.Mathlib.Omega.{arith}
 use borrow.Author.Needs.{needs}
-use lib.ListN.{length-set, length}
+use lib.ListN.{length-set, length, replicate}
 use Rattle.bitmap_spec.specs.Judge.{sizeOf}
 use Rattle.bitmap_spec.specs.Output.{written}
 use Rattle.form_write.specs.Described.{descsTo}
 use Rattle.form_write.proofs.Cells.{no-descs}
 use Rattle.pair_write.specs.Sides.{placeAt, result}
 use Rattle.pair_write.proofs.Pairs.{place-start, place-next, side-room, side-ok}
-use Rattle.pair_write.proofs.Result.{next-desc}
+use Rattle.pair_write.proofs.Result.{next-cut}
+use Rattle.pair_write.proofs.Skipping.{cleared, cleared-length, desc-over, empty-first}
+use Rattle.pair_write.proofs.Skipping.{first-past, second-past, zeros-past, zeros-end}
 use Rattle.pair_write.proofs.describe.Statement.{statement}
 use Rattle.pair_write.proofs.describe.Tie as tie
 
@@ -22,44 +25,100 @@ Inv-loop o a da x b db y n ds₀ made₀ at₀ bt₀ k₀ ds made at bt k =
     × (bt ≡ placeAt db y k)
     × (length ds ≡ length ds₀)
     × (length made ≡ 32)
-    × (ds ≡ written ds₀ 0 (descsTo (result o a da x b db y) k))
+    × ((first : List ℕ) → n ≤ length first
+    → ds₀ ≡ written first 0 (descsTo (result o a da x b db y) 0 ++ replicate (n - 0) 0)
+    → ds ≡ written first 0 (descsTo (result o a da x b db y) k ++ replicate (n - k) 0))
 
 abbrev μ-loop : tie.MeasureT-loop
 μ-loop o a da x b db y n ds₀ made₀ at₀ bt₀ k₀ ds made at bt k = n - k
 
+clear-requires : tie.Need-clear-requires Inv-loop μ-loop
+clear-requires c κs =
+    let pre = c .before .before .before .before .before .before .pre in
+    (omega arith, pre .2)
+
 loop-holds : tie.Need-loop-holds Inv-loop μ-loop
 loop-holds c =
-    let args = c .before .before .before .before .before .args in
-    let pre = c .before .before .before .before .before .pre in (
+    let args = c .before .before .before .before .before .before .before .before .before .args in
+    let pre = c .before .before .before .before .before .before .before .before .before .pre in (
       omega arith,
       place-start _ _ (args .x) (pre .0 .first),
       place-start _ _ (args .y) (pre .0 .second),
       refl,
       refl,
-      no-descs (result (args .o) (args .a .now) (args .da .now) (args .x) (args .b .now) (args .db .now) (args .y))
-          (args .ds .now),
+      λ f h q. q,
     )
 
 descriptor-at-requires : tie.Need-descriptor-at-requires Inv-loop μ-loop
 descriptor-at-requires c κs =
-    let pre = c .before .before .before .before .before .before .before .pre in
+    let pre = c .before .before .before .before .before .before .before .before .before .before .before .pre in
     pre .0 .first .long
 
 descriptor-at-requires-2 : tie.Need-descriptor-at-requires-2 Inv-loop μ-loop
 descriptor-at-requires-2 c κs =
-    let pre = c .before .before .before .before .before .before .before .before .pre in
+    let pre = c .before .before .before .before .before .before .before .before .before .before .before .before .pre in
     pre .0 .second .long
 
+both-empty-requires : tie.Need-both-empty-requires Inv-loop μ-loop
+both-empty-requires c κs = search needs
+
+add-pass-empty : tie.Need-add-pass-empty Inv-loop μ-loop
+add-pass-empty c =
+    let pre =
+    c .before .before .before .before .before .before .before .before .before .before .before .before .before .before .before .pre in
+    let loop-test = c .before .before .before .before .loop-test in
+    omega (arith, pre .1, loop-test .taken)
+
+pass-empty-requires : tie.Need-pass-empty-requires Inv-loop μ-loop
+pass-empty-requires c κs =
+    let pre =
+    c .before .before .before .before .before .before .before .before .before .before .before .before .before .before .before .pre in
+    let loop-test = c .before .before .before .before .loop-test in
+    (pre .0 .first .long, pre .0 .second .long, omega (arith, loop-test .taken), pre .1)
+
+loop-less : tie.Need-loop-less Inv-loop μ-loop
+loop-less c = omega (arith, c .pass-empty .ensures .0, c .pass-empty .ensures .1)
+
+loop-again : tie.Need-loop-again Inv-loop μ-loop
+loop-again c =
+    let args =
+    c .before .before .before .before .before .before .before .before .before .before .before .before .before .before .before .before .args in
+    let pre =
+    c .before .before .before .before .before .before .before .before .before .before .before .before .before .before .before .before .pre in
+    let loop = c .before .before .before .before .before .before .loop in
+    let descriptor-at = c .before .before .before .before .descriptor-at in
+    let descriptor-at2 = c .before .before .before .descriptor-at2 in
+    let z = c .before .before .both-empty .ensures (c .before .if1 .taken) in
+    let e = empty-first _ _ _ _ (loop .k) _ (sym (descriptor-at .ensures) ∙ z .0) (sym (descriptor-at2 .ensures) ∙ z .1)
+    (c .pass-empty .ensures .2) in
+    let up : loop .k ≤ c .pass-empty .result = omega (arith, c .pass-empty .ensures .0) in (
+      c .pass-empty .ensures .1,
+      loop .inv .1 ∙ sym
+          (first-past (args .o) _ _ (args .x) _ _ (args .y) (pre .0) (loop .k) (c .pass-empty .result) up e),
+      loop .inv .2 ∙ sym
+          (second-past (args .o) _ _ (args .x) _ _ (args .y) (pre .0) (loop .k) (c .pass-empty .result) up e),
+      loop .inv .3,
+      loop .inv .4,
+      λ f h q.
+          loop .inv .5 f h q ∙ ap (λ (s : List ℕ). written f 0 s)
+          (zeros-past (args .o) _ _ (args .x) _ _ (args .y) (pre .0) (loop .k) (c .pass-empty .result) up e
+          (args .n) (c .pass-empty .ensures .1)),
+    )
+
 slice-aggregate-pair-count : tie.Need-slice-aggregate-pair-count Inv-loop μ-loop
-slice-aggregate-pair-count c = sym (c .before .before .before .before .loop .inv .4)
+slice-aggregate-pair-count c =
+    let inv = c .before .before .before .before .before .before .loop .inv in
+    sym (inv .4)
 
 pair-count-requires : tie.Need-pair-count-requires Inv-loop μ-loop
 pair-count-requires c κs =
-    let args = c .before .before .before .before .before .before .before .before .before .before .args in
-    let pre = c .before .before .before .before .before .before .before .before .before .before .pre in
-    let loop = c .before .before .before .before .loop in
-    let descriptor-at = c .before .before .descriptor-at in
-    let descriptor-at2 = c .before .descriptor-at2 in (
+    let args =
+    c .before .before .before .before .before .before .before .before .before .before .before .before .before .before .before .before .args in
+    let pre =
+    c .before .before .before .before .before .before .before .before .before .before .before .before .before .before .before .before .pre in
+    let loop = c .before .before .before .before .before .before .loop in
+    let descriptor-at = c .before .before .before .before .descriptor-at in
+    let descriptor-at2 = c .before .before .before .descriptor-at2 in (
       rw (descriptor-at .ensures) (side-room _ _ (args .x) (pre .0 .first) (loop .k) (loop .at) (loop .inv .1)),
       rw (descriptor-at2 .ensures) (side-room _ _ (args .y) (pre .0 .second) (loop .k) (loop .bt) (loop .inv .2)),
       omega (arith, loop .inv .4),
@@ -72,23 +131,35 @@ descriptor-requires c κs = search needs
 
 slice-write-ds : tie.Need-slice-write-ds Inv-loop μ-loop
 slice-write-ds c =
-    let early = c .before .before .before .before .before .before .before .before .before in
-    let pre = early .before .before .before .before .pre in
-    let inv = c .before .before .before .before .before .before .before .loop .inv in
-    let loop-test = c .before .before .before .before .before .before .loop-test in
-    omega (arith, loop-test .taken, inv .3, pre .2)
+    let args =
+    c .before .before .before .before .before .before .before .before .before .before .before .before .before .before .before .before .before .before .before .args in
+    let pre =
+    c .before .before .before .before .before .before .before .before .before .before .before .before .before .before .before .before .before .before .before .pre in
+    let clear =
+    c .before .before .before .before .before .before .before .before .before .before .before .before .clear in
+    let inv = c .before .before .before .before .before .before .before .before .before .loop .inv in
+    let loop-test = c .before .before .before .before .before .before .before .before .loop-test in
+    omega (
+      arith,
+      loop-test .taken,
+      inv .3,
+      pre .2,
+      cleared-length (args .ds .now) _ 0 (args .n) (omega arith) (pre .2) (clear .ensures),
+    )
 
 size-of-requires : tie.Need-size-of-requires Inv-loop μ-loop
 size-of-requires c κs = search needs
 
 add-at : tie.Need-add-at Inv-loop μ-loop
 add-at c =
-    let early = c .before .before .before .before .before .before .before .before .before .before in
-    let args = early .before .before .before .before .args in
-    let good = early .before .before .before .before .good in
-    let pre = early .before .before .before .before .pre in
-    let loop = c .before .before .before .before .before .before .before .before .loop in
-    let descriptor-at = c .before .before .before .before .before .before .descriptor-at in
+    let args =
+    c .before .before .before .before .before .before .before .before .before .before .before .before .before .before .before .before .before .before .before .before .args in
+    let good =
+    c .before .before .before .before .before .before .before .before .before .before .before .before .before .before .before .before .before .before .before .before .good in
+    let pre =
+    c .before .before .before .before .before .before .before .before .before .before .before .before .before .before .before .before .before .before .before .before .pre in
+    let loop = c .before .before .before .before .before .before .before .before .before .before .loop in
+    let descriptor-at = c .before .before .before .before .before .before .before .before .descriptor-at in
     omega (
       arith,
       good .1 .0,
@@ -101,12 +172,14 @@ size-of-requires-2 c κs = search needs
 
 add-bt : tie.Need-add-bt Inv-loop μ-loop
 add-bt c =
-    let early = c .before .before .before .before .before .before .before .before .before .before .before in
-    let args = early .before .before .before .before .args in
-    let good = early .before .before .before .before .good in
-    let pre = early .before .before .before .before .pre in
-    let loop = c .before .before .before .before .before .before .before .before .before .loop in
-    let descriptor-at2 = c .before .before .before .before .before .before .descriptor-at2 in
+    let args =
+    c .before .before .before .before .before .before .before .before .before .before .before .before .before .before .before .before .before .before .before .before .before .args in
+    let good =
+    c .before .before .before .before .before .before .before .before .before .before .before .before .before .before .before .before .before .before .before .before .before .good in
+    let pre =
+    c .before .before .before .before .before .before .before .before .before .before .before .before .before .before .before .before .before .before .before .before .before .pre in
+    let loop = c .before .before .before .before .before .before .before .before .before .before .before .loop in
+    let descriptor-at2 = c .before .before .before .before .before .before .before .before .descriptor-at2 in
     omega (
       arith,
       good .1 .1 .1 .1 .0,
@@ -116,26 +189,31 @@ add-bt c =
 
 add-k : tie.Need-add-k Inv-loop μ-loop
 add-k c =
-    let early = c .before .before .before .before .before .before .before .before .before .before .before in
-    let pre = early .before .before .before .before .pre in
-    let loop-test = c .before .before .before .before .before .before .before .before .loop-test in
+    let pre =
+    c .before .before .before .before .before .before .before .before .before .before .before .before .before .before .before .before .before .before .before .before .before .pre in
+    let loop-test = c .before .before .before .before .before .before .before .before .before .before .loop-test in
     omega (arith, pre .1, loop-test .taken)
 
-loop-less : tie.Need-loop-less Inv-loop μ-loop
-loop-less c =
-    let loop-test = c .before .before .before .before .before .before .before .before .loop-test in
+loop-less-2 : tie.Need-loop-less-2 Inv-loop μ-loop
+loop-less-2 c =
+    let loop-test = c .before .before .before .before .before .before .before .before .before .before .loop-test in
     omega (arith, loop-test .taken)
 
-loop-again : tie.Need-loop-again Inv-loop μ-loop
-loop-again c =
-    let early = c .before .before .before .before .before .before .before .before .before .before .before in
-    let args = early .before .before .before .before .args in
-    let pre = early .before .before .before .before .pre in
-    let loop = c .before .before .before .before .before .before .before .before .before .loop in
-    let loop-test = c .before .before .before .before .before .before .before .before .loop-test in
-    let descriptor-at = c .before .before .before .before .before .before .before .descriptor-at in
-    let descriptor-at2 = c .before .before .before .before .before .before .descriptor-at2 in
-    let pair-count = c .before .before .before .before .pair-count in (
+loop-again-2 : tie.Need-loop-again-2 Inv-loop μ-loop
+loop-again-2 c =
+    let args =
+    c .before .before .before .before .before .before .before .before .before .before .before .before .before .before .before .before .before .before .before .before .before .args in
+    let pre =
+    c .before .before .before .before .before .before .before .before .before .before .before .before .before .before .before .before .before .before .before .before .before .pre in
+    let loop = c .before .before .before .before .before .before .before .before .before .before .before .loop in
+    let loop-test = c .before .before .before .before .before .before .before .before .before .before .loop-test in
+    let descriptor-at = c .before .before .before .before .before .before .before .before .before .descriptor-at in
+    let descriptor-at2 = c .before .before .before .before .before .before .before .before .descriptor-at2 in
+    let pair-count = c .before .before .before .before .pair-count in
+    let made = pair-count .ensures ∙ sym
+    (ap length
+    (next-cut (args .o) _ _ (args .x) _ _ (args .y) (pre .0) (loop .k) (loop .at) (loop .bt) _ _
+    (loop .inv .1) (loop .inv .2) (descriptor-at .ensures) (descriptor-at2 .ensures))) in (
       omega (arith, loop-test .taken),
       place-next _ _ (args .x) (pre .0 .first) (loop .k) (loop .at) _ (loop .inv .1)
           (c .before .size-of .ensures ∙ ap sizeOf (descriptor-at .ensures)),
@@ -143,21 +221,40 @@ loop-again c =
           (c .size-of2 .ensures ∙ ap sizeOf (descriptor-at2 .ensures)),
       simp length-set (loop .inv .3),
       pair-count .kept .1 .1 .1 .1 .1 .1 .1 .0 ∙ loop .inv .4,
-      next-desc (args .o) _ _ (args .x) _ _ (args .y) (pre .0) (loop .k) (loop .at) (loop .bt) _ _ (loop .inv .1)
-          (loop .inv .2) (descriptor-at .ensures) (descriptor-at2 .ensures) _ _ _ _
-          (omega (arith, loop-test .taken, pre .2)) (pair-count .ensures) (c .before .before .descriptor .ensures)
-          (loop .inv .5),
+      λ f h q.
+          desc-over
+          (result (args .o) (args .a .now) (args .da .now) (args .x) (args .b .now) (args .db .now) (args .y)) f
+          (loop .ds) (args .n) (loop .k) _ (pair-count .result) (loop-test .taken) made
+          (c .before .before .descriptor .ensures) (loop .inv .5 f h q),
     )
 
 same-length : tie.Need-same-length Inv-loop μ-loop
-same-length c = c .before .loop .inv .3
+same-length c =
+    let args = c .before .before .before .before .before .before .before .before .before .before .before .args in
+    let pre = c .before .before .before .before .before .before .before .before .before .before .before .pre in
+    let clear = c .before .before .before .before .clear in
+    c .before .loop .inv .3 ∙ cleared-length (args .ds .now) _ 0 (args .n) (omega arith) (pre .2) (clear .ensures)
 
 returns : tie.Need-returns Inv-loop μ-loop
 returns c =
-    let args = c .before .before .before .before .before .before .before .args in
+    let args = c .before .before .before .before .before .before .before .before .before .before .before .args in
+    let pre = c .before .before .before .before .before .before .before .before .before .before .before .pre in
+    let clear = c .before .before .before .before .clear in
     let loop = c .before .loop in
-    let e : loop .k ≡ args .n = omega (arith, c .loop-test .left, loop .inv .0) in
-    rw e at (loop .inv .5)
+    let end : loop .k ≡ args .n = omega (arith, c .loop-test .left, loop .inv .0) in
+    let all = loop .inv .5 (args .ds .now) (pre .2)
+    (cleared
+    (result (args .o) (args .a .now) (args .da .now) (args .x) (args .b .now) (args .db .now) (args .y))
+    (args .ds .now) (args .ds .now) _ 0 (args .n) (omega arith) (pre .2)
+    (no-descs
+    (result (args .o) (args .a .now) (args .da .now) (args .x) (args .b .now) (args .db .now)
+    (args .y))
+    (args .ds .now))
+    (clear .ensures))
+    ∙ zeros-end
+    (result (args .o) (args .a .now) (args .da .now) (args .x) (args .b .now) (args .db .now) (args .y))
+    (args .ds .now) (loop .k) (args .n) end in
+    rw end at all
 
 pub describe-spec : {M : Type 1} → statement M
 describe-spec =
@@ -165,9 +262,15 @@ describe-spec =
     (tie.spec
     Inv-loop
     μ-loop
+    clear-requires
     loop-holds
     descriptor-at-requires
     descriptor-at-requires-2
+    both-empty-requires
+    add-pass-empty
+    pass-empty-requires
+    loop-less
+    loop-again
     slice-aggregate-pair-count
     pair-count-requires
     descriptor-requires
@@ -177,7 +280,7 @@ describe-spec =
     size-of-requires-2
     add-bt
     add-k
-    loop-less
-    loop-again
+    loop-less-2
+    loop-again-2
     same-length
     returns)
