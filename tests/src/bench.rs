@@ -43,15 +43,17 @@ pub struct Earlier {
 
 pub type Print<'a> = &'a mut dyn FnMut(Line);
 
-/// What prints the lines of each group of calls.
-pub const GROUPS: [fn(Print); 7] = [
-    read::run,
-    write::run,
-    combine::run,
-    store::run,
-    numbers::run,
-    tables::run_rows,
-    tables::run_buckets,
+/// A group of calls: its name, and what prints its lines.
+pub type Group = (&'static str, fn(Print));
+
+pub const GROUPS: [Group; 7] = [
+    ("read", read::run),
+    ("write", write::run),
+    ("combine", combine::run),
+    ("store", store::run),
+    ("numbers", numbers::run),
+    ("rows", tables::run_rows),
+    ("buckets", tables::run_buckets),
 ];
 
 const RUNS: usize = 41;

@@ -3,7 +3,7 @@
 //! Each line is the median of several runs in which the two sides take turns. The library is called by its
 //! wrapper for Rust. Outputs are allocated before the measurement and are not cleared between calls.
 
-use second_program::bench::{Line, GROUPS};
+use second_program::bench::{Group, Line, GROUPS};
 
 fn time(seconds: f64) -> String {
     match seconds {
@@ -43,7 +43,20 @@ fn print(line: &Line) {
     );
 }
 
+/// The groups that are named on the command line, or all.
+fn chosen() -> Vec<Group> {
+    let names: Vec<String> = std::env::args().skip(1).collect();
+    let known = |name: &String| GROUPS.iter().any(|(group, _)| group == name);
+    if let Some(name) = names.iter().find(|name| !known(name)) {
+        eprintln!("bench: no group is called '{name}'");
+        std::process::exit(2);
+    }
+    let wanted = |(group, _): &Group| names.is_empty() || names.iter().any(|name| name == group);
+    GROUPS.into_iter().filter(wanted).collect()
+}
+
 fn main() {
+    let groups = chosen();
     println!(
         "CPU time of one call, medians of interleaved runs, baseline x86-64 code, opt-level 3."
     );
@@ -58,7 +71,7 @@ fn main() {
     }
     println!("| {} |", names.join(" | "));
     println!("|{}", "---|".repeat(names.len()));
-    for group in GROUPS {
+    for (_, group) in groups {
         group(&mut |line| print(&line));
     }
 }
