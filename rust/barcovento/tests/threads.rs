@@ -11,6 +11,9 @@ use std::hash::{DefaultHasher, Hash, Hasher};
 use std::sync::Barrier;
 use std::thread::{scope, Builder};
 
+/// The C header.
+const HEADER: &str = include_str!("../../../include/barcovento.h");
+
 /// The stack that is enough for every call, and for the thread that calls it.
 const STACK: usize = 65_536;
 
@@ -382,7 +385,7 @@ fn names(text: &str) -> BTreeSet<&str> {
 
 /// The header without its comments.
 fn declarations() -> String {
-    let header = include_str!("../../../include/barcovento.h");
+    let header = HEADER;
     let mut parts = header.split("/*");
     let first = parts.next().unwrap().to_string();
     parts.fold(first, |text, part| text + part.split_once("*/").unwrap().1)
@@ -409,6 +412,70 @@ fn little_stack_is_enough() {
             let thread = Builder::new().name(name.to_string()).stack_size(STACK);
             thread.spawn_scoped(scope, asking).unwrap().join().unwrap();
         });
+    }
+}
+
+/// How much of the stack below the caller is painted.
+const PAINTED: usize = 262_144;
+
+/// Paints the stack below the caller, and says where the paint begins.
+#[inline(never)]
+fn paint() -> usize {
+    let here = 0u8;
+    let top = std::ptr::addr_of!(here) as usize - 256;
+    for place in top - PAINTED..top {
+        // SAFETY: the thread's stack goes on for longer below this frame, and nothing lies there.
+        unsafe { std::ptr::write_volatile(place as *mut u8, 0xA5) };
+    }
+    top
+}
+
+/// How much of the painted stack was written over.
+#[inline(never)]
+fn touched(top: usize) -> usize {
+    // SAFETY: the painted bytes are still the thread's own.
+    let painted = |&place: &usize| unsafe { std::ptr::read_volatile(place as *const u8) } == 0xA5;
+    PAINTED - (top - PAINTED..top).take_while(painted).count()
+}
+
+/// The stack that a call touches, in KiB, rounded up; what asks it takes part in it.
+fn stack_of(ask: fn(&Inputs, &mut Outputs), inputs: &Inputs, outputs: &mut Outputs) -> usize {
+    scope(|scope| {
+        let asking = || {
+            let top = paint();
+            ask(inputs, outputs);
+            touched(top)
+        };
+        let thread = Builder::new().stack_size(4 * PAINTED).spawn_scoped(scope, asking);
+        thread.unwrap().join().unwrap().div_ceil(1_024)
+    })
+}
+
+/// The header's table of stack: KiB for each call.
+fn told_stack() -> Vec<(&'static str, usize)> {
+    let table = HEADER.split("Stack, in KiB").nth(1).unwrap().split("*/").next().unwrap();
+    let mut told = Vec::new();
+    for line in table.lines() {
+        let mut words = line.split_whitespace().skip(1);
+        if let Some(Ok(kib)) = words.next().map(str::parse) {
+            told.extend(words.map(|call| (call, kib)));
+        }
+    }
+    told
+}
+
+/// No call touches more stack than the header tells, and none much less.
+#[test]
+fn the_header_tells_the_stack() {
+    let inputs = Inputs::largest();
+    let mut outputs = Outputs::new(&inputs);
+    let told = told_stack();
+    assert_eq!(told.len(), 24);
+    for (name, ask) in calls() {
+        let kib = stack_of(ask, &inputs, &mut outputs);
+        let told = told.iter().find(|(call, _)| *call == name).expect(name).1;
+        println!("{name}: {kib} KiB, told {told}");
+        assert!(kib <= told && told <= kib + 2 && told <= 64, "{name}: {kib} KiB, told {told}");
     }
 }
 
