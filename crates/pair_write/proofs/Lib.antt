@@ -1,4 +1,5 @@
 pub mod Alone
+pub mod Capped
 pub mod Counting
 pub mod Filtered
 pub mod Joined

@@ -7,40 +7,19 @@ use Prim.Native.Nat.{ℕ, _+_, _≤_, _<_}
 use native.Mathlib.Numerals.{add-one}
 use native.Mathlib.Omega.{arith}
 use borrow.Author.Tests.{eqb-true, eqb-false, eq-eqb, ne-eqb}
-use mir.Val.{boolByte}
 use lib.Dec.{eqb}
-use lib.ListN.{length, length-append, length-drop, length-set, getD, set, take, drop}
+use lib.ListN.{length, length-drop, getD, set, take, drop}
 use lib.Seq.{take-suc, getD-drop, getD-set-same, getD-set-other}
-use Rattle.common.specs.Lists.{keep, mem}
+use Rattle.common.specs.Lists.{mem}
 use Rattle.common.specs.Outcome.{pick, either}
-use Rattle.bitmap_laws.proofs.Cuts.{keep-append}
 use Rattle.pair_write.specs.Sides.{Marks, Fresh}
 
 -- ---- one byte more
-run-more : (s : List ℕ) (at i : ℕ) → at + i < length s
+pub run-more : (s : List ℕ) (at i : ℕ) → at + i < length s
     → take (i + 1) (drop at s) ≡ take i (drop at s) ++ (getD s (at + i) 0 ∷ [])
 run-more s at i h =
     let l : i < length (drop at s) = rw (length-drop at s) (omega arith) in
     rw (add-one i, take-suc (drop at s) i 0 l, getD-drop at s i 0)
-
-keep-last : (f : ℕ → Bool) (x : ℕ) → length (keep f (x ∷ [])) ≡ boolByte (f x)
-unfolding keep
-keep-last f x = go (f x)
-  where
-    go : (b : Bool) → length (pick b (x ∷ []) []) ≡ boolByte b
-    go true = refl
-    go false = refl
-
-pub count-more : (f : ℕ → Bool) (s : List ℕ) (at i x m : ℕ) → at + i < length s → x ≡ getD s (at + i) 0
-    → m ≡ length (keep f (take i (drop at s)))
-    → m + boolByte (f x) ≡ length (keep f (take (i + 1) (drop at s)))
-count-more f s at i x m h ex e =
-    rw (run-more s at i h, keep-append f (take i (drop at s)) (getD s (at + i) 0 ∷ []), ← ex)
-    (omega (arith, e, length-append (keep f (take i (drop at s))) (keep f (x ∷ [])), keep-last f x))
-
-pub count-start : (f : ℕ → Bool) (l : List ℕ) → 0 ≡ length (keep f (take 0 l))
-unfolding keep
-count-start f l = refl
 
 -- ---- marks
 mem-last : (x y : ℕ) (l : List ℕ) → mem x (l ++ (y ∷ [])) ≡ either (mem x l) (eqb x y)

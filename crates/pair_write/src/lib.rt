@@ -4,7 +4,8 @@ ghost use mathlib.Core.Path.{_≡_};
 ghost use mathlib.Core.Bool.{true, false};
 ghost use mathlib.Core.List.{_++_};
 ghost use Prim.Native.Nat.{ℕ, _+_, _-_, _≤_, _<_, max, min};
-ghost use lib.ListN.{length, take, replicate};
+ghost use lib.Dec.{eqb};
+ghost use lib.ListN.{length, getD, take, drop, replicate};
 ghost use Rattle.common.specs.Lists.{keep, from};
 ghost use Rattle.bitmap_spec.specs.Judge.{sizeOf, container, containerOk};
 ghost use Rattle.bitmap_spec.specs.Form.{writeContainer};
@@ -12,7 +13,7 @@ ghost use Rattle.bitmap_spec.specs.Output.{written};
 ghost use Rattle.bitmap_spec.specs.Sets.{holds};
 ghost use Rattle.blocks.specs.Block.{block};
 ghost use Rattle.form_write.specs.Described.{descsTo};
-ghost use Rattle.pair_write.specs.Sides.{descAt, halfHolds, pairHolds, pairMembers, wantOf, kept, Both, Reaches, Roomy, Gathers, result};
+ghost use Rattle.pair_write.specs.Sides.{descAt, halfHolds, pairHolds, pairMembers, wantOf, kept, joinedCount, isUnion, Marks, Fresh, Both, Reaches, Roomy, Gathers, result};
 use bitmap_spec::Operation;
 
 // Where a judged bitmap's containers lie: how many descriptors it has, and where its containers start.
@@ -384,6 +385,117 @@ pub fn gather(
     }
     let size = p.size + t;
     Reached { card, size, at, bt }
+}
+
+// How many members two sets of p and q members, c of them in both, have combined.
+fn joined_count(o: Operation, p: u32, q: u32, c: u32) -> u32
+    requires { ⌜ (c ≤ p) × (c ≤ q) × (p ≤ 256) × (q ≤ 256) ⌝ }
+    ensures { λ r. ⌜ r ≡ joinedCount o p q c ⌝ }
+{
+    match o {
+        Operation::Union => p + q - c,
+        Operation::Intersection => c,
+        Operation::Difference => p - c,
+        Operation::SymmetricDifference => p + q - 2 * c,
+    }
+}
+
+// Whether the operation is the union.
+fn is_union(o: Operation) -> bool
+    ensures { λ r. ⌜ r ≡ isUnion o ⌝ }
+{
+    match o {
+        Operation::Union => true,
+        Operation::Intersection => false,
+        Operation::Difference => false,
+        Operation::SymmetricDifference => false,
+    }
+}
+
+// Gives the n bytes of s at `at` the stamp as their mark.
+fn mark(s: &[u8], at: usize, n: usize, stamp: u16, marks: &mut [u16]) -> usize
+    requires { ⌜ (at + n ≤ length (now s)) × (256 ≤ length (now marks)) ⌝ }
+    ensures { λ r. ⌜ Marks (take n (drop at (now (s .entry)))) stamp (now (marks .entry)) (now (marks .exit)) ⌝ }
+{
+    let mut i: usize = 0;
+    while i < n {
+        marks[s[at + i] as usize] = stamp;
+        i += 1;
+    }
+    i
+}
+
+// How many of the n bytes of s at `at` have the stamp as their mark.
+fn marked(s: &[u8], at: usize, n: usize, stamp: u16, marks: &[u16]) -> u32
+    requires { ⌜ (at + n ≤ length (now s)) × (256 ≤ length (now marks)) × (n < 32) ⌝ }
+    ensures { λ r. ⌜ r ≡ length (keep (λ x. eqb (getD (now (marks .entry)) x 0) stamp) (take n (drop at (now (s .entry))))) ⌝ }
+{
+    let mut m: u32 = 0;
+    let mut i: usize = 0;
+    while i < n {
+        m += (marks[s[at + i] as usize] == stamp) as u32;
+        i += 1;
+    }
+    m
+}
+
+// How many of the n bytes of s at `at` have their bit set in the block of t at `start`.
+fn common(s: &[u8], at: usize, n: usize, t: &[u8], start: usize) -> u32
+    requires { ⌜ (at + n ≤ length (now s)) × (start + 32 ≤ length (now t)) × (n < 32) ⌝ }
+    ensures { λ r. ⌜ r ≡ length (kept (now (s .entry)) at n (now (t .entry)) start 1) ⌝ }
+{
+    let mut m: u32 = 0;
+    let mut i: usize = 0;
+    while i < n {
+        let x = s[at + i];
+        m += bits::bit_of(t[start + (x / 8) as usize], (x % 8) as usize) as u32;
+        i += 1;
+    }
+    m
+}
+
+// How many members two sparse containers have combined; no mark of before has the stamp.
+fn sparse_count(
+    o: Operation,
+    a: &[u8],
+    at: usize,
+    d: u8,
+    b: &[u8],
+    bt: usize,
+    e: u8,
+    stamp: u16,
+    marks: &mut [u16],
+) -> u32
+    requires { ⌜ (d < 32) × (e < 32) × (at + sizeOf d ≤ length (now a)) × (bt + sizeOf e ≤ length (now b)) × (containerOk (now a) at d ≡ true) × (containerOk (now b) bt e ≡ true) × Fresh (now marks) stamp ⌝ }
+    ensures { λ r. ⌜ (r ≡ length (pairMembers o (now (a .entry)) at d (now (b .entry)) bt e)) × Fresh (now (marks .exit)) (stamp + 1) ⌝ }
+{
+    mark(b, bt, e as usize, stamp, marks);
+    let c = marked(a, at, d as usize, stamp, marks);
+    joined_count(o, d as u32, e as u32, c)
+}
+
+// How many members a dense container and a sparse one have combined.
+fn dense_sparse(o: Operation, a: &[u8], at: usize, d: u8, b: &[u8], bt: usize, e: u8) -> u32
+    requires { ⌜ (32 ≤ d) × (e < 32) × (at + sizeOf d ≤ length (now a)) × (bt + sizeOf e ≤ length (now b)) × (containerOk (now a) at d ≡ true) × (containerOk (now b) bt e ≡ true) ⌝ }
+    ensures { λ r. ⌜ r ≡ length (pairMembers o (now (a .entry)) at d (now (b .entry)) bt e) ⌝ }
+{
+    let c = common(b, bt, e as usize, a, at);
+    if !keeps_first(o) {
+        return c;
+    }
+    joined_count(o, members(a, at, d), e as u32, c)
+}
+
+// How many members a sparse container and a dense one have combined.
+fn sparse_dense(o: Operation, a: &[u8], at: usize, d: u8, b: &[u8], bt: usize, e: u8) -> u32
+    requires { ⌜ (d < 32) × (32 ≤ e) × (at + sizeOf d ≤ length (now a)) × (bt + sizeOf e ≤ length (now b)) × (containerOk (now a) at d ≡ true) × (containerOk (now b) bt e ≡ true) ⌝ }
+    ensures { λ r. ⌜ r ≡ length (pairMembers o (now (a .entry)) at d (now (b .entry)) bt e) ⌝ }
+{
+    let c = common(a, at, d as usize, b, bt);
+    if !keeps_second(o) {
+        return joined_count(o, d as u32, c, c);
+    }
+    joined_count(o, d as u32, members(b, bt, e), c)
 }
 
 // How many members two containers combined have; of room the first 32 bytes are written over.
