@@ -8,7 +8,7 @@ use native.Mathlib.Numerals.{add-one}
 use native.Mathlib.Omega.{arith}
 use borrow.Author.Tests.{eqb-true, eqb-false, eq-eqb, ne-eqb}
 use lib.Dec.{eqb}
-use lib.ListN.{length, length-drop, getD, set, take, drop}
+use lib.ListN.{length, length-drop, getD, getD-replicate, set, take, drop, replicate, length-replicate}
 use lib.Seq.{take-suc, getD-drop, getD-set-same, getD-set-other}
 use Rattle.common.specs.Lists.{mem}
 use Rattle.common.specs.Outcome.{pick, either}
@@ -88,3 +88,9 @@ module _ (l : List ℕ) (stamp : ℕ) (before after : List ℕ) (f : Fresh befor
 
 pub later-fresh : (marks : List ℕ) (j k : ℕ) → j ≤ k → Fresh marks j → Fresh marks k
 later-fresh marks j k h f = record { long = f .long; below = λ x l. omega (arith, f .below x l) }
+
+pub start-fresh : Fresh (replicate 256 0) (0 + 1)
+start-fresh = record {
+  long = rw (length-replicate {A = ℕ} 256 0) (omega arith);
+  below = λ x h. rw (getD-replicate {A = ℕ} 256 x 0 0 h) (omega arith);
+}

@@ -498,7 +498,38 @@ fn sparse_dense(o: Operation, a: &[u8], at: usize, d: u8, b: &[u8], bt: usize, e
     joined_count(o, d as u32, members(b, bt, e), c)
 }
 
-// How many members two containers combined have; of room the first 32 bytes are written over.
+// How many members two dense containers have combined, or 32 of at least as many.
+fn dense_count(o: Operation, a: &[u8], at: usize, d: u8, b: &[u8], bt: usize, e: u8) -> u32
+    requires { ⌜ (32 ≤ d) × (32 ≤ e) × (at + sizeOf d ≤ length (now a)) × (bt + sizeOf e ≤ length (now b)) × (containerOk (now a) at d ≡ true) × (containerOk (now b) bt e ≡ true) ⌝ }
+    ensures { λ r. ⌜ min r 32 ≡ min (length (pairMembers o (now (a .entry)) at d (now (b .entry)) bt e)) 32 ⌝ }
+{
+    match o {
+        Operation::Union => 32,
+        Operation::Intersection => blocks::and_count(a, at, b, bt),
+        Operation::Difference => blocks::without_count(a, at, b, bt),
+        Operation::SymmetricDifference => blocks::xor_count(a, at, b, bt),
+    }
+}
+
+// How many members two containers, of which one is dense, have combined, or 32 of at least as many.
+fn mixed_count(o: Operation, a: &[u8], at: usize, d: u8, b: &[u8], bt: usize, e: u8) -> u32
+    requires { ⌜ (32 ≤ max d e) × (at + sizeOf d ≤ length (now a)) × (bt + sizeOf e ≤ length (now b)) × (containerOk (now a) at d ≡ true) × (containerOk (now b) bt e ≡ true) ⌝ }
+    ensures { λ r. ⌜ min r 32 ≡ min (length (pairMembers o (now (a .entry)) at d (now (b .entry)) bt e)) 32 ⌝ }
+{
+    if is_union(o) {
+        return 32;
+    }
+    if e < 32 {
+        return dense_sparse(o, a, at, d, b, bt, e);
+    }
+    if d < 32 {
+        return sparse_dense(o, a, at, d, b, bt, e);
+    }
+    dense_count(o, a, at, d, b, bt, e)
+}
+
+// How many members two containers have combined, or 32 or more of at least as many: a descriptor asks no more. A mark
+// of before is below the stamp, and a mark of after is at most the stamp.
 fn pair_count(
     o: Operation,
     a: &[u8],
@@ -507,26 +538,24 @@ fn pair_count(
     b: &[u8],
     bt: usize,
     e: u8,
-    room: &mut [u8],
+    stamp: u16,
+    marks: &mut [u16],
 ) -> u32
-    requires { ⌜ (at + sizeOf d ≤ length (now a)) × (bt + sizeOf e ≤ length (now b)) × (32 ≤ length (now room)) × (containerOk (now a) at d ≡ true) × (containerOk (now b) bt e ≡ true) ⌝ }
-    ensures { λ r. ⌜ r ≡ length (pairMembers o (now (a .entry)) at d (now (b .entry)) bt e) ⌝ }
+    requires { ⌜ (at + sizeOf d ≤ length (now a)) × (bt + sizeOf e ≤ length (now b)) × (containerOk (now a) at d ≡ true) × (containerOk (now b) bt e ≡ true) × Fresh (now marks) stamp ⌝ }
+    ensures { λ r. ⌜ (min r 32 ≡ min (length (pairMembers o (now (a .entry)) at d (now (b .entry)) bt e)) 32) × Fresh (now (marks .exit)) (stamp + 1) ⌝ }
 {
     if d == 0 {
-        if e == 0 {
-            return 0;
-        }
-        return put_alone(o, a, at, d, b, bt, e, room, 0);
+        return joined_count(o, 0, e as u32, 0);
     }
     if e == 0 {
-        return put_alone(o, a, at, d, b, bt, e, room, 0);
+        return joined_count(o, d as u32, 0, 0);
     }
     if d < 32 {
-        if !keeps_second(o) {
-            return put_filtered(o, a, at, d, b, bt, e, room, 0);
+        if e < 32 {
+            return sparse_count(o, a, at, d, b, bt, e, stamp, marks);
         }
     }
-    join_pair(o, a, at, d, b, bt, e, room, 0)
+    mixed_count(o, a, at, d, b, bt, e)
 }
 
 // Fills in the descriptors of the first n containers of the result, whose bytes nobody keeps.
@@ -544,7 +573,7 @@ pub fn describe(
     requires { ⌜ Both (now a) (now da) x (now b) (now db) y × (n ≤ 8192) × (n ≤ length (now ds)) ⌝ }
     ensures { λ r. ⌜ now (ds .exit) ≡ written (now (ds .entry)) 0 (descsTo (result o (now (a .entry)) (now (da .entry)) x (now (b .entry)) (now (db .entry)) y) n) ⌝ }
 {
-    let mut made = [0u8; 32];
+    let mut marks = [0u16; 256];
     let mut at = x.start;
     let mut bt = y.start;
     clear(ds, 0, n);
@@ -555,7 +584,7 @@ pub fn describe(
         if both_empty(d, e) {
             k = pass_empty(da, x.count, db, y.count, k + 1, n);
         } else {
-            let c = pair_count(o, a, at, d, b, bt, e, &mut made);
+            let c = pair_count(o, a, at, d, b, bt, e, (k + 1) as u16, &mut marks);
             ds[k] = descriptor(c);
             at += judge::size_of(d);
             bt += judge::size_of(e);
