@@ -1,13 +1,13 @@
 -- The members of two blocks joined, counted by words: a word of the joined bytes is the two words joined, for each of
 -- the machine's operations that acts byte by byte. Assumes nothing.
-use mathlib.Core.Path.{_≡_, refl, sym, ap, ap₂, _∙_}
+use mathlib.Core.Path.{_≡_, refl, ap, ap₂, _∙_}
 use mathlib.Core.Logic.{⊎-elim}
 use mathlib.Core.Bool.{Bool, true, false}
 use mathlib.Core.List.{List}
-use Prim.Native.Nat.{ℕ, zero, suc, _+_, _-_, _*_, _%_, _^_, _≤_, _<_}
-use native.Mathlib.Nat.{add-zero, zero-add}
+use Prim.Native.Nat.{ℕ, zero, suc, _+_, _*_, _^_, _≤_, _<_}
+use native.Mathlib.Nat.{add-zero}
 use native.Mathlib.Omega.{arith}
-use lib.Bits.{bitAnd, bitXor, and-block, xor-block, and-zero-r, and-mask, and-lt, xor-zero-l, xor-zero-r, xor-lt}
+use lib.Bits.{bitAnd, bitXor, and-block, xor-block, and-zero-r, and-mask, and-lt, xor-zero-l, xor-zero-r}
 use lib.Count.{ones}
 use lib.Dec.{eqb}
 use lib.ListN.{length, getD, List·getD-eq-default}
@@ -52,7 +52,8 @@ module _ (o : Operation) (a : List ℕ) (at : ℕ) (b : List ℕ) (bt : ℕ) (sa
   members : length (dense (Made o a at b bt) 0) ≡ length (keep (joins o a at b bt) (from 0 256))
   unfolding dense
   members =
-      ap length (keep-same (λ j. eqb (bit (Made o a at b bt) (0 * 8 + j)) 1) (joins o a at b bt) 0 256 (λ i l. same i l))
+      ap length
+      (keep-same (λ j. eqb (bit (Made o a at b bt) (0 * 8 + j)) 1) (joins o a at b bt) 0 256 (λ i l. same i l))
     where
       back : (b : Bool) → eqb (one b) 1 ≡ b
       back true = refl
@@ -67,21 +68,23 @@ module _ (o : Operation) (a : List ℕ) (at : ℕ) (b : List ℕ) (bt : ℕ) (sa
       (cat : (x y r s : ℕ) → r < 256 → s < 256 → op (x * 2 ^ 8 + r) (y * 2 ^ 8 + s) ≡ op x y * 2 ^ 8 + op r s)
       (is : (x y : ℕ) → x < 256 → y < 256
       → mix (mask (onFirst o)) (mask (onSecond o)) (mask (onBoth o)) x y ≡ op x y) where
-    word-is : (k n : ℕ) → k + n ≤ 32 → op (littleAt a (at + k) n) (littleAt b (bt + k) n) ≡ littleAt (Made o a at b bt) k n
+    word-is : (k n : ℕ) → k + n ≤ 32
+        → op (littleAt a (at + k) n) (littleAt b (bt + k) n) ≡ littleAt (Made o a at b bt) k n
     unfolding littleAt
     word-is k zero h = none
     word-is k (suc n) h =
         let p : at + (k + 1) ≡ at + k + 1 = omega arith in
         let q : bt + (k + 1) ≡ bt + k + 1 = omega arith in
         let ih = rw (p, q) at (word-is (k + 1) n (omega arith)) in
-        let u : getD a (at + k) 0 + 256 * littleAt a (at + k + 1) n ≡ littleAt a (at + k + 1) n * 2 ^ 8 + getD a (at + k) 0
-        = omega arith in
-        let v : getD b (bt + k) 0 + 256 * littleAt b (bt + k + 1) n ≡ littleAt b (bt + k + 1) n * 2 ^ 8 + getD b (bt + k) 0
-        = omega arith in
-        let low = byte-is k (omega arith) ∙ is (getD a (at + k) 0) (getD b (bt + k) 0) (sa (at + k)) (sb (bt + k)) in
+        let x = getD a (at + k) 0 in
+        let y = getD b (bt + k) 0 in
+        let us = littleAt a (at + k + 1) n in
+        let vs = littleAt b (bt + k + 1) n in
+        let u : x + 256 * us ≡ us * 2 ^ 8 + x = omega arith in
+        let v : y + 256 * vs ≡ vs * 2 ^ 8 + y = omega arith in
+        let low = byte-is k (omega arith) ∙ is x y (sa (at + k)) (sb (bt + k)) in
         ap₂ op u v
-        ∙ cat (littleAt a (at + k + 1) n) (littleAt b (bt + k + 1) n) (getD a (at + k) 0) (getD b (bt + k) 0) (sa (at + k))
-        (sb (bt + k))
+        ∙ cat us vs x y (sa (at + k)) (sb (bt + k))
         ∙ omega (arith, ih, low)
 
     first : op (littleAt a at 8) (littleAt b bt 8) ≡ littleAt (Made o a at b bt) 0 8

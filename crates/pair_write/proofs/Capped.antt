@@ -2,11 +2,12 @@
 -- other is empty is counted by its descriptor. Assumes nothing.
 use mathlib.Core.Path.{_≡_, refl, sym, ap, ap₂, _∙_}
 use mathlib.Core.Logic.{⊎-elim}
-use mathlib.Core.Bool.{Bool, true}
+use mathlib.Core.Bool.{Bool, true, false}
 use mathlib.Core.List.{List}
-use Prim.Native.Nat.{ℕ, _+_, _-_, _*_, _≤_, _<_, min, max}
+use Prim.Native.Nat.{ℕ, _+_, _≤_, min, max}
 use native.Mathlib.Omega.{arith}
 use borrow.Author.Tests.{le-ltb, leb-true}
+use lib.Dec.{eqb}
 use lib.ListN.{length}
 use Rattle.common.specs.Lists.{keep, from, mem}
 use Rattle.bitmap_spec.specs.Judge.{container, containerOk, sizeOf, dense}
@@ -16,7 +17,7 @@ use Rattle.bitmap_spec.specs.declared.Operation.the-variants.{Union, Intersecti
 use Rattle.bitmap_spec.proofs.Window.{below-or}
 use Rattle.bitmap_laws.proofs.Containers.{keep-same}
 use Rattle.blocks.specs.Block.{joins}
-use Rattle.pair_write.specs.Sides.{pairHolds, pairMembers, joinedCount, isUnion}
+use Rattle.pair_write.specs.Sides.{pairHolds, pairMembers, wantOf, joinedCount, isUnion}
 use Rattle.pair_write.proofs.Alone.{members-low}
 use Rattle.pair_write.proofs.Counting.{pair-counts}
 use Rattle.pair_write.proofs.Joined.{as-block}
@@ -28,7 +29,21 @@ module _ (s : List ℕ) (at d : ℕ) (g : containerOk s at d ≡ true) where
   many h = leb-true 32 (length (container s at d)) (rw (le-ltb d 32 h) at g)
 
   capped : at + sizeOf d ≤ length s → min d 32 ≡ min (length (container s at d)) 32
-  capped r = ⊎-elim (λ l. ap (λ (n : ℕ). min n 32) (members-low s at d r l)) (λ l. omega (arith, many l)) (below-or d 32)
+  capped r =
+      ⊎-elim (λ l. ap (λ (n : ℕ). min n 32) (members-low s at d r l)) (λ l. omega (arith, many l)) (below-or d 32)
+
+-- ---- the union
+pub union-kept : (o : Operation) → holds o false true ≡ true → eqb (wantOf o) 1 ≡ isUnion o
+union-kept Union h = refl
+union-kept Intersection h = absurd (let z : _≡_ {A = ℕ} 0 1 = cc in omega arith)
+union-kept Difference h = absurd (let z : _≡_ {A = ℕ} 0 1 = cc in omega arith)
+union-kept SymmetricDifference h = refl
+
+pub union-lost : (o : Operation) → holds o false true ≡ false → false ≡ isUnion o
+union-lost Union h = absurd (let z : _≡_ {A = ℕ} 0 1 = cc in omega arith)
+union-lost Intersection h = refl
+union-lost Difference h = refl
+union-lost SymmetricDifference h = refl
 
 -- ---- two containers
 first-cap : (o : Operation) (e n : ℕ) → min e 32 ≡ min n 32
@@ -67,12 +82,15 @@ module _ (o : Operation) (a : List ℕ) (at d : ℕ) (b : List ℕ) (bt e : ℕ)
         ∙ ap (λ (k : ℕ). min k 32) (sym (rw (p, c) at (n .2))))
 
     -- a union keeps the 32 members or more of a dense container
-    pub union-full : isUnion o ≡ true → 32 ≤ max d e → _≡_ {A = ℕ} (min 32 32) (min (length (pairMembers o a at d b bt e)) 32)
+    pub union-full : isUnion o ≡ true → 32 ≤ max d e
+        → _≡_ {A = ℕ} (min 32 32) (min (length (pairMembers o a at d b bt e)) 32)
     union-full u m = go o u (pair-counts a at d b bt e o g h .0) (pair-counts a at d b bt e o g h .1)
         (pair-counts a at d b bt e o g h .2)
       where
         large : 32 ≤ max (length (container a at d)) (length (container b bt e))
-        large = ⊎-elim (λ l. omega (arith, many b bt e h (omega arith))) (λ l. omega (arith, many a at d g l)) (below-or d 32)
+        large =
+            ⊎-elim (λ l. omega (arith, many b bt e h (omega arith))) (λ l. omega (arith, many a at d g l))
+            (below-or d 32)
 
         go : (o : Operation) → isUnion o ≡ true → {c r : ℕ} → c ≤ length (container a at d)
             → c ≤ length (container b bt e)

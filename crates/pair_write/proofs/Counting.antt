@@ -2,8 +2,8 @@
 -- are in both. Assumes nothing.
 use mathlib.Core.Path.{_≡_, refl, sym, ap, _∙_}
 use mathlib.Core.Bool.{Bool, true, false}
-use mathlib.Core.List.{List, [], _∷_, _++_}
-use Prim.Native.Nat.{ℕ, _+_, _-_, _*_, _≤_, _<_}
+use mathlib.Core.List.{List, [], _∷_}
+use Prim.Native.Nat.{ℕ, _+_, _*_, _≤_, _<_}
 use native.Mathlib.Omega.{arith}
 use mathlib.Core.Logic.{⊎-elim}
 use mir.Val.{boolByte}
@@ -127,8 +127,8 @@ module _ (s : List ℕ) (at : ℕ) (t : List ℕ) (start : ℕ) where
 -- ---- two containers
 module _ (a : List ℕ) (at d : ℕ) (b : List ℕ) (bt e : ℕ) where
   pub pair-counts : (o : Operation) → containerOk a at d ≡ true → containerOk b bt e ≡ true
-      → Counts o (length (container a at d)) (length (container b bt e)) (length (pairMembers Intersection a at d b bt e))
-      (length (pairMembers o a at d b bt e))
+      → Counts o (length (container a at d)) (length (container b bt e))
+      (length (pairMembers Intersection a at d b bt e)) (length (pairMembers o a at d b bt e))
   unfolding pairMembers pairHolds
   pair-counts o g h =
       let n = inclusion o (λ j. mem j (container a at d)) (λ j. mem j (container b bt e)) (from 0 256) in

@@ -71,20 +71,21 @@ marks-more s at i y stamp before after h ey l m =
         ∙ miss (mem x (take i (drop at s))) stamp (getD before x 0) ∙ sym (last x false e)
 
 -- ---- a stamp that no number had
-module _ (l : List ℕ) (stamp : ℕ) (before after : List ℕ) (f : Fresh before stamp) (m : Marks l stamp before after) where
-  pub stamped : (x : ℕ) → x < 256 → eqb (getD after x 0) stamp ≡ mem x l
-  stamped x h = rw (m .at x h) (go (mem x l))
-    where
-      go : (b : Bool) → eqb (pick b stamp (getD before x 0)) stamp ≡ b
-      go true = eq-eqb stamp stamp refl
-      go false = ne-eqb (getD before x 0) stamp (λ e. omega (arith, f .below x h))
+module _ (l : List ℕ) (stamp : ℕ) (before after : List ℕ) (f : Fresh before stamp) (m : Marks l stamp before after)
+  where
+    pub stamped : (x : ℕ) → x < 256 → eqb (getD after x 0) stamp ≡ mem x l
+    stamped x h = rw (m .at x h) (go (mem x l))
+      where
+        go : (b : Bool) → eqb (pick b stamp (getD before x 0)) stamp ≡ b
+        go true = eq-eqb stamp stamp refl
+        go false = ne-eqb (getD before x 0) stamp (λ e. omega (arith, f .below x h))
 
-  pub next-fresh : length after ≡ length before → Fresh after (stamp + 1)
-  next-fresh n = record { long = omega (arith, f .long); below = λ x h. rw (m .at x h) (go x h (mem x l)) }
-    where
-      go : (x : ℕ) → x < 256 → (b : Bool) → pick b stamp (getD before x 0) < stamp + 1
-      go x h true = omega arith
-      go x h false = omega (arith, f .below x h)
+    pub next-fresh : length after ≡ length before → Fresh after (stamp + 1)
+    next-fresh n = record { long = omega (arith, f .long); below = λ x h. rw (m .at x h) (go x h (mem x l)) }
+      where
+        go : (x : ℕ) → x < 256 → (b : Bool) → pick b stamp (getD before x 0) < stamp + 1
+        go x h true = omega arith
+        go x h false = omega (arith, f .below x h)
 
 pub later-fresh : (marks : List ℕ) (j k : ℕ) → j ≤ k → Fresh marks j → Fresh marks k
 later-fresh marks j k h f = record { long = f .long; below = λ x l. omega (arith, f .below x l) }

@@ -1,5 +1,5 @@
-// Two judged bitmaps combined, each pair of containers once: descriptors, members and bytes in one pass. Inner: no
-// entry point. put_alone and put_filtered are called from two places or more, so that they stay out of the loop.
+// Two judged bitmaps combined, each pair of containers once: descriptors, members and bytes in one pass, or descriptors
+// alone. Inner: no entry point. put_alone is called from two places, so that it stays out of the loop.
 ghost use mathlib.Core.Path.{_≡_};
 ghost use mathlib.Core.Bool.{true, false};
 ghost use mathlib.Core.List.{_++_};
@@ -400,16 +400,14 @@ fn joined_count(o: Operation, p: u32, q: u32, c: u32) -> u32
     }
 }
 
-// Whether the operation is the union.
+// Whether the operation is the union: it alone keeps what is in the second alone, and what is in both.
 fn is_union(o: Operation) -> bool
     ensures { λ r. ⌜ r ≡ isUnion o ⌝ }
 {
-    match o {
-        Operation::Union => true,
-        Operation::Intersection => false,
-        Operation::Difference => false,
-        Operation::SymmetricDifference => false,
+    if keeps_second(o) {
+        return wanted(o) == 1;
     }
+    false
 }
 
 // Gives the n bytes of s at `at` the stamp as their mark.
@@ -454,7 +452,8 @@ fn common(s: &[u8], at: usize, n: usize, t: &[u8], start: usize) -> u32
     m
 }
 
-// How many members two sparse containers have combined; no mark of before has the stamp.
+// How many members two sparse containers have combined. The members of the second get a stamp that no mark had before,
+// so that nothing is cleared.
 fn sparse_count(
     o: Operation,
     a: &[u8],
@@ -498,8 +497,8 @@ fn sparse_dense(o: Operation, a: &[u8], at: usize, d: u8, b: &[u8], bt: usize, e
     joined_count(o, d as u32, members(b, bt, e), c)
 }
 
-// How many members two dense containers have combined, or 32 of at least as many.
-fn dense_count(o: Operation, a: &[u8], at: usize, d: u8, b: &[u8], bt: usize, e: u8) -> u32
+// How many members two dense containers have combined; of a union, which has 32 or more, it says 32.
+fn dense_dense(o: Operation, a: &[u8], at: usize, d: u8, b: &[u8], bt: usize, e: u8) -> u32
     requires { ⌜ (32 ≤ d) × (32 ≤ e) × (at + sizeOf d ≤ length (now a)) × (bt + sizeOf e ≤ length (now b)) × (containerOk (now a) at d ≡ true) × (containerOk (now b) bt e ≡ true) ⌝ }
     ensures { λ r. ⌜ min r 32 ≡ min (length (pairMembers o (now (a .entry)) at d (now (b .entry)) bt e)) 32 ⌝ }
 {
@@ -511,7 +510,7 @@ fn dense_count(o: Operation, a: &[u8], at: usize, d: u8, b: &[u8], bt: usize, e:
     }
 }
 
-// How many members two containers, of which one is dense, have combined, or 32 of at least as many.
+// How many members two containers, of which one is dense, have combined; of a union, which has 32 or more, it says 32.
 fn mixed_count(o: Operation, a: &[u8], at: usize, d: u8, b: &[u8], bt: usize, e: u8) -> u32
     requires { ⌜ (32 ≤ max d e) × (at + sizeOf d ≤ length (now a)) × (bt + sizeOf e ≤ length (now b)) × (containerOk (now a) at d ≡ true) × (containerOk (now b) bt e ≡ true) ⌝ }
     ensures { λ r. ⌜ min r 32 ≡ min (length (pairMembers o (now (a .entry)) at d (now (b .entry)) bt e)) 32 ⌝ }
@@ -525,11 +524,11 @@ fn mixed_count(o: Operation, a: &[u8], at: usize, d: u8, b: &[u8], bt: usize, e:
     if d < 32 {
         return sparse_dense(o, a, at, d, b, bt, e);
     }
-    dense_count(o, a, at, d, b, bt, e)
+    dense_dense(o, a, at, d, b, bt, e)
 }
 
-// How many members two containers have combined, or 32 or more of at least as many: a descriptor asks no more. A mark
-// of before is below the stamp, and a mark of after is at most the stamp.
+// How many members two containers have combined; where there are 32 or more, a number of 32 or more, since a descriptor
+// asks for nothing else. Every mark is below the stamp before, and at most the stamp after.
 fn pair_count(
     o: Operation,
     a: &[u8],

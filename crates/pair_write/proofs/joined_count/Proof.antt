@@ -1,66 +1,48 @@
-use mathlib.Core.Path.{_≡_, refl, sym, ap, _∙_}
-use Prim.Native.Nat.{ℕ, zero, suc, _+_, _-_, _*_, _≤_, _<_}
-use native.Mathlib.Omega.{arith}
-use lib.ListN.{length, getD}
+-- The definition, case by case: c is in both p and q, so no difference goes below 0.
+-- Assumes nothing.
 use borrow.Author.Needs.{needs}
 use Rattle.pair_write.proofs.joined_count.Statement.{statement}
 use Rattle.pair_write.proofs.joined_count.Tie as tie
-use Rattle.pair_write.proofs.joined_count.Reads as reads
-use Rattle.pair_write.proofs.joined_count.Lts as lts
 
--- src/lib.rt:396:29
 enum-told : tie.Need-enum-told
 enum-told c = search needs
 
--- src/lib.rt:396:29
 add-result : tie.Need-add-result
 add-result c = search needs
 
--- src/lib.rt:396:29
 sub-result : tie.Need-sub-result
 sub-result c = search needs
 
--- src/lib.rt:397:36
 enum-told-2 : tie.Need-enum-told-2
 enum-told-2 c = search needs
 
--- src/lib.rt:398:34
 enum-told-3 : tie.Need-enum-told-3
 enum-told-3 c = search needs
 
--- src/lib.rt:398:34
 sub-result-2 : tie.Need-sub-result-2
 sub-result-2 c = search needs
 
--- src/lib.rt:399:43
 enum-told-4 : tie.Need-enum-told-4
 enum-told-4 c = search needs
 
--- src/lib.rt:399:43
 add-result-2 : tie.Need-add-result-2
 add-result-2 c = search needs
 
--- src/lib.rt:399:51
 mul-result : tie.Need-mul-result
 mul-result c = search needs
 
--- src/lib.rt:399:43
 sub-result-3 : tie.Need-sub-result-3
 sub-result-3 c = search needs
 
--- src/lib.rt:391:1
 returns : tie.Need-returns
 returns c = rw (c .enum-told .given .1)
 
--- src/lib.rt:391:1
 returns-2 : tie.Need-returns-2
 returns-2 c = rw (c .enum-told2 .given .1)
 
--- src/lib.rt:391:1
 returns-3 : tie.Need-returns-3
 returns-3 c = rw (c .enum-told3 .given .1)
 
--- src/lib.rt:391:1
 returns-4 : tie.Need-returns-4
 returns-4 c = rw (c .enum-told4 .given .1)
 
