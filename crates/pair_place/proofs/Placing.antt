@@ -15,7 +15,7 @@ use Rattle.bitmap_spec.specs.Form.{form, cut, writeChunks, writeContainers}
 use Rattle.bitmap_spec.specs.Output.{written, placed, Gives}
 use Rattle.bitmap_spec.specs.declared.Written.the-variants.{Length}
 use Rattle.bitmap_laws.proofs.Length.{chunks-size}
-use Rattle.bitmap_laws.proofs.Output.{written-cat, written-none, give}
+use Rattle.bitmap_laws.proofs.Output.{written-cat, written-none, taken, give}
 use Rattle.bitmap_laws.proofs.Values.{AllLe}
 use Rattle.bitmap_laws.proofs.Round.{header, six-is}
 use Rattle.byte_move.proofs.Moves.{written-before, written-over, read-back}
@@ -63,6 +63,15 @@ pub head-length : (card : ℕ) (ds : List ℕ)
 head-length card ds =
     length-append (header card (length ds)) (writeChunks (length ds / 256) ds)
     ∙ ap (λ (i : ℕ). i + length (writeChunks (length ds / 256) ds)) (six-is card (length ds))
+
+-- at most 32 chunks of 195 bytes
+pub head-most : (ds : List ℕ) → AllLe 63 ds → length ds ≤ 8192 → 6 + length (writeChunks (length ds / 256) ds) ≤ 6246
+head-most ds a h = omega (arith, chunks-size (length ds / 256) ds a (omega arith) (omega arith))
+
+-- made apart and copied
+pub head-copied : (blank head h o1 o2 : List ℕ) (n : ℕ) → head ≡ written blank 0 h → n ≡ length h
+    → o2 ≡ written o1 0 (take n (drop 0 head)) → o2 ≡ written o1 0 h
+head-copied blank head h o1 o2 n e q w = w ∙ ap (λ (s : List ℕ). written o1 0 s) (taken head blank h n e q)
 
 pub head-before : (before o1 o2 h body : List ℕ) (p : ℕ) → p ≡ length h → p + length body ≤ length before
     → o1 ≡ written before p body → o2 ≡ written o1 0 h → o2 ≡ written before 0 (h ++ body)

@@ -150,15 +150,17 @@ fn put_chunkwise(
 }
 
 // Puts header and chunks before the containers, whose bytes lie at out[6] and on and move up; says how long it all is.
+// They are made apart, so that the chunks are gone through once: where the containers go is known when they are made.
 fn put_before(card: u32, ds: &[u8], size: usize, out: &mut [u8]) -> usize
     requires { ⌜ (length (now ds) ≤ 8192) × AllLe 63 (now ds) × (size ≡ sum sizeOf (now ds)) × (6 + length (writeChunks (length (now ds) / 256) (now ds)) + size ≤ length (now out)) ⌝ }
     ensures { λ r. ⌜ (r ≡ 6 + length (writeChunks (length (now (ds .entry)) / 256) (now (ds .entry))) + size)
         × (now (out .exit) ≡ written (now (out .entry)) 0 ((header card (length (now (ds .entry))) ++ writeChunks (length (now (ds .entry)) / 256) (now (ds .entry))) ++ take size (drop 6 (now (out .entry))))) ⌝ }
 {
-    let len = form_write::form_size(ds);
-    byte_move::move_up(out, 6, len - size, size);
-    form_write::put_head(ds, card, out);
-    len
+    let mut head = [0u8; 6246];
+    let to = form_write::put_head(ds, card, &mut head);
+    byte_move::move_up(out, 6, to, size);
+    byte_move::copy_part(&head, 0, to, out, 0);
+    to + size
 }
 
 // Writes the form of the result, which is known to fit: its containers first, at out[6] and on, inside the form.
