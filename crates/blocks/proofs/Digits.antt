@@ -180,7 +180,7 @@ module _ (o : Operation) (a : List ℕ) (at : ℕ) (b : List ℕ) (bt : ℕ) whe
   Joined a at b bt n = joinedBytes (mask (onFirst o)) (mask (onSecond o)) (mask (onBoth o)) a at b bt n
 
   -- the bits of joined bytes are those of the operation
-  joined-bit : (p : ℕ) → p < 256 → bit (Joined a at b bt 32) p ≡ one (joins o a at b bt p)
+  pub joined-bit : (p : ℕ) → p < 256 → bit (Joined a at b bt 32) p ≡ one (joins o a at b bt p)
   unfolding bit joins dense
   joined-bit p l =
       let x : (at * 8 + p) / 8 ≡ at + p / 8 = omega arith in

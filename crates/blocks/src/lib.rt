@@ -2,15 +2,20 @@
 // point.
 ghost use mathlib.Core.Path.{_≡_};
 ghost use Prim.Native.Nat.{ℕ, _+_, _*_, _≤_, _<_};
+ghost use lib.Bits.{bitAnd, bitXor};
+ghost use lib.Count.{ones};
 ghost use lib.ListN.{length, getD, take, drop};
+ghost use Rattle.common.specs.Bytes.{littleAt};
 ghost use Rattle.common.specs.Lists.{mem, keep, from};
 ghost use Rattle.bitmap_spec.specs.Bits.{bit, packed};
 ghost use Rattle.bitmap_spec.specs.Judge.{dense};
 ghost use Rattle.bitmap_spec.specs.Form.{descriptorOf, writeContainer};
 ghost use Rattle.bitmap_spec.specs.Output.{written};
 ghost use Rattle.bitmap_spec.proofs.Tally.{tally};
-ghost use Rattle.blocks.specs.Block.{block, mask, onFirst, onSecond, onBoth, joinedBytes, joins, isOn, wordMembers};
+ghost use Rattle.bitmap_spec.specs.declared.Operation.the-variants.{Intersection, Difference, SymmetricDifference};
+ghost use Rattle.blocks.specs.Block.{block, mask, onFirst, onSecond, onBoth, joinedBytes, joins, without, isOn, wordMembers};
 use bitmap_spec::Operation;
+use words::low_word;
 
 // The block of the n members at `at`.
 pub fn load_sparse(s: &[u8], at: usize, n: usize) -> [u8; 32]
@@ -126,6 +131,64 @@ pub fn join(
         to + 16,
     );
     x as u32 + y as u32
+}
+
+// How many bits are set in both of the words of a at `at` and of b at `bt`.
+fn and_ones(a: &[u8], at: usize, b: &[u8], bt: usize) -> u32
+    requires { ⌜ (at + 8 ≤ length (now a)) × (bt + 8 ≤ length (now b)) ⌝ }
+    ensures { λ r. ⌜ (r ≡ ones (bitAnd (littleAt (now (a .entry)) at 8) (littleAt (now (b .entry)) bt 8))) × (r ≤ 64) ⌝ }
+{
+    u64::count_ones(low_word(a, at) & low_word(b, bt))
+}
+
+// How many members are in both of the blocks at `at` and at `bt`.
+pub fn and_count(a: &[u8], at: usize, b: &[u8], bt: usize) -> u32
+    requires { ⌜ (at + 32 ≤ length (now a)) × (bt + 32 ≤ length (now b)) ⌝ }
+    ensures { λ r. ⌜ r ≡ length (keep (joins Intersection (now (a .entry)) at (now (b .entry)) bt) (from 0 256)) ⌝ }
+{
+    and_ones(a, at, b, bt)
+        + and_ones(a, at + 8, b, bt + 8)
+        + and_ones(a, at + 16, b, bt + 16)
+        + and_ones(a, at + 24, b, bt + 24)
+}
+
+// How many bits are set in the word of a at `at` and not in that of b at `bt`.
+fn without_ones(a: &[u8], at: usize, b: &[u8], bt: usize) -> u32
+    requires { ⌜ (at + 8 ≤ length (now a)) × (bt + 8 ≤ length (now b)) ⌝ }
+    ensures { λ r. ⌜ (r ≡ ones (without (littleAt (now (a .entry)) at 8) (littleAt (now (b .entry)) bt 8))) × (r ≤ 64) ⌝ }
+{
+    let x = low_word(a, at);
+    u64::count_ones(x ^ (x & low_word(b, bt)))
+}
+
+// How many members are in the block at `at` and not in that at `bt`.
+pub fn without_count(a: &[u8], at: usize, b: &[u8], bt: usize) -> u32
+    requires { ⌜ (at + 32 ≤ length (now a)) × (bt + 32 ≤ length (now b)) ⌝ }
+    ensures { λ r. ⌜ r ≡ length (keep (joins Difference (now (a .entry)) at (now (b .entry)) bt) (from 0 256)) ⌝ }
+{
+    without_ones(a, at, b, bt)
+        + without_ones(a, at + 8, b, bt + 8)
+        + without_ones(a, at + 16, b, bt + 16)
+        + without_ones(a, at + 24, b, bt + 24)
+}
+
+// How many bits are set in one of the words of a at `at` and of b at `bt`.
+fn xor_ones(a: &[u8], at: usize, b: &[u8], bt: usize) -> u32
+    requires { ⌜ (at + 8 ≤ length (now a)) × (bt + 8 ≤ length (now b)) ⌝ }
+    ensures { λ r. ⌜ (r ≡ ones (bitXor (littleAt (now (a .entry)) at 8) (littleAt (now (b .entry)) bt 8))) × (r ≤ 64) ⌝ }
+{
+    u64::count_ones(low_word(a, at) ^ low_word(b, bt))
+}
+
+// How many members are in one of the blocks at `at` and at `bt`.
+pub fn xor_count(a: &[u8], at: usize, b: &[u8], bt: usize) -> u32
+    requires { ⌜ (at + 32 ≤ length (now a)) × (bt + 32 ≤ length (now b)) ⌝ }
+    ensures { λ r. ⌜ r ≡ length (keep (joins SymmetricDifference (now (a .entry)) at (now (b .entry)) bt) (from 0 256)) ⌝ }
+{
+    xor_ones(a, at, b, bt)
+        + xor_ones(a, at + 8, b, bt + 8)
+        + xor_ones(a, at + 16, b, bt + 16)
+        + xor_ones(a, at + 24, b, bt + 24)
 }
 
 // The 64 bits from byte `at` on as a number, the first byte the highest.
