@@ -96,7 +96,7 @@ filter-turn s at i t start want before out to m x z h ex ez l em q =
     (put-one (kept s at i t start want) before out to m x em q l (eqb z want))
 
 -- ---- the members of the pair
-keep-keep : (f g : ℕ → Bool) (l : List ℕ) → keep f (keep g l) ≡ keep (λ j. pick (g j) (f j) false) l
+pub keep-keep : (f g : ℕ → Bool) (l : List ℕ) → keep f (keep g l) ≡ keep (λ j. pick (g j) (f j) false) l
 unfolding keep
 keep-keep f g [] = refl
 keep-keep f g (x ∷ xs) = go (g x) (keep-keep f g xs)
@@ -122,7 +122,7 @@ want-is Intersection b h e = refl
 want-is Difference b h e = two-bits b h
 want-is SymmetricDifference b h e = let z : _≡_ {A = ℕ} 0 1 = cc in absurd (omega arith)
 
-dense-bit : (t : List ℕ) (start j : ℕ) → j < 256 → mem j (dense t start) ≡ eqb (bit t (start * 8 + j)) 1
+pub dense-bit : (t : List ℕ) (start j : ℕ) → j < 256 → mem j (dense t start) ≡ eqb (bit t (start * 8 + j)) 1
 unfolding dense
 dense-bit t start j h = mem-keep (λ j. eqb (bit t (start * 8 + j)) 1) 0 256 j (omega arith) (omega arith)
 

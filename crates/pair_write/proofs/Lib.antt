@@ -1,6 +1,9 @@
 pub mod Alone
+pub mod Capped
+pub mod Counting
 pub mod Filtered
 pub mod Joined
+pub mod Marking
 pub mod Pairs
 pub mod Passing
 pub mod Result

@@ -1,7 +1,7 @@
 -- Two judged bitmaps side by side, and their containers combined.
 use Prim.Native.Nat.{ℕ, _+_, _-_, _*_, _≤_, _<_}
 use mathlib.Core.Path.{_≡_}
-use mathlib.Core.Bool.{Bool, true}
+use mathlib.Core.Bool.{Bool, true, false}
 use mathlib.Core.List.{List, _++_, map}
 use lib.ListN.{length, getD, take, drop}
 use lib.Dec.{ltb, eqb}
@@ -13,6 +13,7 @@ use Rattle.bitmap_spec.specs.Form.{cut, writeContainers}
 use Rattle.bitmap_spec.specs.Output.{written}
 use Rattle.bitmap_spec.specs.Sets.{holds, combine}
 use Rattle.bitmap_spec.specs.declared.Operation.{Operation}
+use Rattle.bitmap_spec.specs.declared.Operation.the-variants.{Union, Intersection, Difference, SymmetricDifference}
 use Rattle.form_write.specs.Described.{descsTo}
 use Rattle.judge.specs.Post.{SliceView, viewed}
 use Rattle.pair_write.specs.declared.Reached.{Reached}
@@ -45,6 +46,28 @@ wantOf o = one (holds o true true)
 -- those of the n bytes of s at at whose bit in the block of t at start is want
 unfoldable pub kept : List ℕ → ℕ → ℕ → List ℕ → ℕ → ℕ → List ℕ
 kept s at n t start want = keep (λ x. eqb (bit t (start * 8 + x)) want) (take n (drop at s))
+
+-- how many members two sets of p and q members, c of them in both, have combined
+abbrev pub joinedCount : Operation → ℕ → ℕ → ℕ → ℕ
+joinedCount Union p q c = p + q - c
+joinedCount Intersection p q c = c
+joinedCount Difference p q c = p - c
+joinedCount SymmetricDifference p q c = p + q - 2 * c
+
+abbrev pub isUnion : Operation → Bool
+isUnion Union = true
+isUnion Intersection = false
+isUnion Difference = false
+isUnion SymmetricDifference = false
+
+-- the numbers in l have the stamp as their mark, all others the mark that they had before
+pub record Marks (l : List ℕ) (stamp : ℕ) (before after : List ℕ) : Type 0 where
+  pub at : (x : ℕ) → x < 256 → getD after x 0 ≡ pick (mem x l) stamp (getD before x 0)
+
+-- there is a mark for each of 256 numbers, and none has the stamp or a later one
+pub record Fresh (marks : List ℕ) (stamp : ℕ) : Type 0 where
+  pub long : 256 ≤ length marks
+  pub below : (x : ℕ) → x < 256 → getD marks x 0 < stamp
 
 -- both bitmaps were judged
 pub record Both (a da : List ℕ) (x : Side) (b db : List ℕ) (y : Side) : Type 0 where

@@ -1,10 +1,11 @@
-// Two judged bitmaps combined, each pair of containers once: descriptors, members and bytes in one pass. Inner: no
-// entry point. put_alone and put_filtered are called from two places or more, so that they stay out of the loop.
+// Two judged bitmaps combined, each pair of containers once: descriptors, members and bytes in one pass, or descriptors
+// alone. Inner: no entry point. put_alone is called from two places, so that it stays out of the loop.
 ghost use mathlib.Core.Path.{_≡_};
 ghost use mathlib.Core.Bool.{true, false};
 ghost use mathlib.Core.List.{_++_};
 ghost use Prim.Native.Nat.{ℕ, _+_, _-_, _≤_, _<_, max, min};
-ghost use lib.ListN.{length, take, replicate};
+ghost use lib.Dec.{eqb};
+ghost use lib.ListN.{length, getD, take, drop, replicate};
 ghost use Rattle.common.specs.Lists.{keep, from};
 ghost use Rattle.bitmap_spec.specs.Judge.{sizeOf, container, containerOk};
 ghost use Rattle.bitmap_spec.specs.Form.{writeContainer};
@@ -12,7 +13,7 @@ ghost use Rattle.bitmap_spec.specs.Output.{written};
 ghost use Rattle.bitmap_spec.specs.Sets.{holds};
 ghost use Rattle.blocks.specs.Block.{block};
 ghost use Rattle.form_write.specs.Described.{descsTo};
-ghost use Rattle.pair_write.specs.Sides.{descAt, halfHolds, pairHolds, pairMembers, wantOf, kept, Both, Reaches, Roomy, Gathers, result};
+ghost use Rattle.pair_write.specs.Sides.{descAt, halfHolds, pairHolds, pairMembers, wantOf, kept, joinedCount, isUnion, Marks, Fresh, Both, Reaches, Roomy, Gathers, result};
 use bitmap_spec::Operation;
 
 // Where a judged bitmap's containers lie: how many descriptors it has, and where its containers start.
@@ -386,7 +387,148 @@ pub fn gather(
     Reached { card, size, at, bt }
 }
 
-// How many members two containers combined have; of room the first 32 bytes are written over.
+// How many members two sets of p and q members, c of them in both, have combined.
+fn joined_count(o: Operation, p: u32, q: u32, c: u32) -> u32
+    requires { ⌜ (c ≤ p) × (c ≤ q) × (p ≤ 256) × (q ≤ 256) ⌝ }
+    ensures { λ r. ⌜ r ≡ joinedCount o p q c ⌝ }
+{
+    match o {
+        Operation::Union => p + q - c,
+        Operation::Intersection => c,
+        Operation::Difference => p - c,
+        Operation::SymmetricDifference => p + q - 2 * c,
+    }
+}
+
+// Whether the operation is the union: it alone keeps what is in the second alone, and what is in both.
+fn is_union(o: Operation) -> bool
+    ensures { λ r. ⌜ r ≡ isUnion o ⌝ }
+{
+    if keeps_second(o) {
+        return wanted(o) == 1;
+    }
+    false
+}
+
+// Gives the n bytes of s at `at` the stamp as their mark.
+fn mark(s: &[u8], at: usize, n: usize, stamp: u16, marks: &mut [u16]) -> usize
+    requires { ⌜ (at + n ≤ length (now s)) × (256 ≤ length (now marks)) ⌝ }
+    ensures { λ r. ⌜ Marks (take n (drop at (now (s .entry)))) stamp (now (marks .entry)) (now (marks .exit)) ⌝ }
+{
+    let mut i: usize = 0;
+    while i < n {
+        marks[s[at + i] as usize] = stamp;
+        i += 1;
+    }
+    i
+}
+
+// How many of the n bytes of s at `at` have the stamp as their mark.
+fn marked(s: &[u8], at: usize, n: usize, stamp: u16, marks: &[u16]) -> u32
+    requires { ⌜ (at + n ≤ length (now s)) × (256 ≤ length (now marks)) × (n < 32) ⌝ }
+    ensures { λ r. ⌜ r ≡ length (keep (λ x. eqb (getD (now (marks .entry)) x 0) stamp) (take n (drop at (now (s .entry))))) ⌝ }
+{
+    let mut m: u32 = 0;
+    let mut i: usize = 0;
+    while i < n {
+        m += (marks[s[at + i] as usize] == stamp) as u32;
+        i += 1;
+    }
+    m
+}
+
+// How many of the n bytes of s at `at` have their bit set in the block of t at `start`.
+fn common(s: &[u8], at: usize, n: usize, t: &[u8], start: usize) -> u32
+    requires { ⌜ (at + n ≤ length (now s)) × (start + 32 ≤ length (now t)) × (n < 32) ⌝ }
+    ensures { λ r. ⌜ r ≡ length (kept (now (s .entry)) at n (now (t .entry)) start 1) ⌝ }
+{
+    let mut m: u32 = 0;
+    let mut i: usize = 0;
+    while i < n {
+        let x = s[at + i];
+        m += bits::bit_of(t[start + (x / 8) as usize], (x % 8) as usize) as u32;
+        i += 1;
+    }
+    m
+}
+
+// How many members two sparse containers have combined. The members of the second get a stamp that no mark had before,
+// so that nothing is cleared.
+fn sparse_count(
+    o: Operation,
+    a: &[u8],
+    at: usize,
+    d: u8,
+    b: &[u8],
+    bt: usize,
+    e: u8,
+    stamp: u16,
+    marks: &mut [u16],
+) -> u32
+    requires { ⌜ (d < 32) × (e < 32) × (at + sizeOf d ≤ length (now a)) × (bt + sizeOf e ≤ length (now b)) × (containerOk (now a) at d ≡ true) × (containerOk (now b) bt e ≡ true) × Fresh (now marks) stamp ⌝ }
+    ensures { λ r. ⌜ (r ≡ length (pairMembers o (now (a .entry)) at d (now (b .entry)) bt e)) × Fresh (now (marks .exit)) (stamp + 1) ⌝ }
+{
+    mark(b, bt, e as usize, stamp, marks);
+    let c = marked(a, at, d as usize, stamp, marks);
+    joined_count(o, d as u32, e as u32, c)
+}
+
+// How many members a dense container and a sparse one have combined.
+fn dense_sparse(o: Operation, a: &[u8], at: usize, d: u8, b: &[u8], bt: usize, e: u8) -> u32
+    requires { ⌜ (32 ≤ d) × (e < 32) × (at + sizeOf d ≤ length (now a)) × (bt + sizeOf e ≤ length (now b)) × (containerOk (now a) at d ≡ true) × (containerOk (now b) bt e ≡ true) ⌝ }
+    ensures { λ r. ⌜ r ≡ length (pairMembers o (now (a .entry)) at d (now (b .entry)) bt e) ⌝ }
+{
+    let c = common(b, bt, e as usize, a, at);
+    if !keeps_first(o) {
+        return c;
+    }
+    joined_count(o, members(a, at, d), e as u32, c)
+}
+
+// How many members a sparse container and a dense one have combined.
+fn sparse_dense(o: Operation, a: &[u8], at: usize, d: u8, b: &[u8], bt: usize, e: u8) -> u32
+    requires { ⌜ (d < 32) × (32 ≤ e) × (at + sizeOf d ≤ length (now a)) × (bt + sizeOf e ≤ length (now b)) × (containerOk (now a) at d ≡ true) × (containerOk (now b) bt e ≡ true) ⌝ }
+    ensures { λ r. ⌜ r ≡ length (pairMembers o (now (a .entry)) at d (now (b .entry)) bt e) ⌝ }
+{
+    let c = common(a, at, d as usize, b, bt);
+    if !keeps_second(o) {
+        return joined_count(o, d as u32, c, c);
+    }
+    joined_count(o, d as u32, members(b, bt, e), c)
+}
+
+// How many members two dense containers have combined; of a union, which has 32 or more, it says 32.
+fn dense_dense(o: Operation, a: &[u8], at: usize, d: u8, b: &[u8], bt: usize, e: u8) -> u32
+    requires { ⌜ (32 ≤ d) × (32 ≤ e) × (at + sizeOf d ≤ length (now a)) × (bt + sizeOf e ≤ length (now b)) × (containerOk (now a) at d ≡ true) × (containerOk (now b) bt e ≡ true) ⌝ }
+    ensures { λ r. ⌜ min r 32 ≡ min (length (pairMembers o (now (a .entry)) at d (now (b .entry)) bt e)) 32 ⌝ }
+{
+    match o {
+        Operation::Union => 32,
+        Operation::Intersection => blocks::and_count(a, at, b, bt),
+        Operation::Difference => blocks::without_count(a, at, b, bt),
+        Operation::SymmetricDifference => blocks::xor_count(a, at, b, bt),
+    }
+}
+
+// How many members two containers, of which one is dense, have combined; of a union, which has 32 or more, it says 32.
+fn mixed_count(o: Operation, a: &[u8], at: usize, d: u8, b: &[u8], bt: usize, e: u8) -> u32
+    requires { ⌜ (32 ≤ max d e) × (at + sizeOf d ≤ length (now a)) × (bt + sizeOf e ≤ length (now b)) × (containerOk (now a) at d ≡ true) × (containerOk (now b) bt e ≡ true) ⌝ }
+    ensures { λ r. ⌜ min r 32 ≡ min (length (pairMembers o (now (a .entry)) at d (now (b .entry)) bt e)) 32 ⌝ }
+{
+    if is_union(o) {
+        return 32;
+    }
+    if e < 32 {
+        return dense_sparse(o, a, at, d, b, bt, e);
+    }
+    if d < 32 {
+        return sparse_dense(o, a, at, d, b, bt, e);
+    }
+    dense_dense(o, a, at, d, b, bt, e)
+}
+
+// How many members two containers have combined; where there are 32 or more, a number of 32 or more, since a descriptor
+// asks for nothing else. Every mark is below the stamp before, and at most the stamp after.
 fn pair_count(
     o: Operation,
     a: &[u8],
@@ -395,26 +537,24 @@ fn pair_count(
     b: &[u8],
     bt: usize,
     e: u8,
-    room: &mut [u8],
+    stamp: u16,
+    marks: &mut [u16],
 ) -> u32
-    requires { ⌜ (at + sizeOf d ≤ length (now a)) × (bt + sizeOf e ≤ length (now b)) × (32 ≤ length (now room)) × (containerOk (now a) at d ≡ true) × (containerOk (now b) bt e ≡ true) ⌝ }
-    ensures { λ r. ⌜ r ≡ length (pairMembers o (now (a .entry)) at d (now (b .entry)) bt e) ⌝ }
+    requires { ⌜ (at + sizeOf d ≤ length (now a)) × (bt + sizeOf e ≤ length (now b)) × (containerOk (now a) at d ≡ true) × (containerOk (now b) bt e ≡ true) × Fresh (now marks) stamp ⌝ }
+    ensures { λ r. ⌜ (min r 32 ≡ min (length (pairMembers o (now (a .entry)) at d (now (b .entry)) bt e)) 32) × Fresh (now (marks .exit)) (stamp + 1) ⌝ }
 {
     if d == 0 {
-        if e == 0 {
-            return 0;
-        }
-        return put_alone(o, a, at, d, b, bt, e, room, 0);
+        return joined_count(o, 0, e as u32, 0);
     }
     if e == 0 {
-        return put_alone(o, a, at, d, b, bt, e, room, 0);
+        return joined_count(o, d as u32, 0, 0);
     }
     if d < 32 {
-        if !keeps_second(o) {
-            return put_filtered(o, a, at, d, b, bt, e, room, 0);
+        if e < 32 {
+            return sparse_count(o, a, at, d, b, bt, e, stamp, marks);
         }
     }
-    join_pair(o, a, at, d, b, bt, e, room, 0)
+    mixed_count(o, a, at, d, b, bt, e)
 }
 
 // Fills in the descriptors of the first n containers of the result, whose bytes nobody keeps.
@@ -432,7 +572,7 @@ pub fn describe(
     requires { ⌜ Both (now a) (now da) x (now b) (now db) y × (n ≤ 8192) × (n ≤ length (now ds)) ⌝ }
     ensures { λ r. ⌜ now (ds .exit) ≡ written (now (ds .entry)) 0 (descsTo (result o (now (a .entry)) (now (da .entry)) x (now (b .entry)) (now (db .entry)) y) n) ⌝ }
 {
-    let mut made = [0u8; 32];
+    let mut marks = [0u16; 256];
     let mut at = x.start;
     let mut bt = y.start;
     clear(ds, 0, n);
@@ -443,7 +583,7 @@ pub fn describe(
         if both_empty(d, e) {
             k = pass_empty(da, x.count, db, y.count, k + 1, n);
         } else {
-            let c = pair_count(o, a, at, d, b, bt, e, &mut made);
+            let c = pair_count(o, a, at, d, b, bt, e, (k + 1) as u16, &mut marks);
             ds[k] = descriptor(c);
             at += judge::size_of(d);
             bt += judge::size_of(e);

@@ -1,8 +1,9 @@
--- The invariant: the descriptors of the containers passed; at and bt are where the next two lie.
+-- The invariant: the descriptors of the containers passed; at and bt are where the next two lie; no mark is above k, so
+-- container k's stamp, k + 1, is new.
 -- Assumes nothing.
 use mathlib.Core.Path.{_≡_, refl, sym, ap, _∙_}
 use mathlib.Core.List.{List, _++_}
-use Prim.Native.Nat.{ℕ, _-_, _≤_}
+use Prim.Native.Nat.{ℕ, _+_, _-_, _≤_}
 use native.Mathlib.Omega.{arith}
 use borrow.Author.Needs.{needs}
 use lib.ListN.{length-set, length, replicate}
@@ -10,7 +11,8 @@ use Rattle.bitmap_spec.specs.Judge.{sizeOf}
 use Rattle.bitmap_spec.specs.Output.{written}
 use Rattle.form_write.specs.Described.{descsTo}
 use Rattle.form_write.proofs.Cells.{no-descs}
-use Rattle.pair_write.specs.Sides.{placeAt, result}
+use Rattle.pair_write.specs.Sides.{placeAt, Fresh, result}
+use Rattle.pair_write.proofs.Marking.{start-fresh, later-fresh}
 use Rattle.pair_write.proofs.Pairs.{place-start, place-next, side-room, side-ok}
 use Rattle.pair_write.proofs.Result.{next-cut}
 use Rattle.pair_write.proofs.Skipping.{cleared, cleared-length, desc-over, empty-first, first-past}
@@ -19,18 +21,19 @@ use Rattle.pair_write.proofs.describe.Statement.{statement}
 use Rattle.pair_write.proofs.describe.Tie as tie
 
 abbrev Inv-loop : tie.InvT-loop
-Inv-loop o a da x b db y n ds₀ made₀ at₀ bt₀ k₀ ds made at bt k =
+Inv-loop o a da x b db y n ds₀ marks₀ at₀ bt₀ k₀ ds marks at bt k =
     (k ≤ n)
     × (at ≡ placeAt da x k)
     × (bt ≡ placeAt db y k)
     × (length ds ≡ length ds₀)
-    × (length made ≡ 32)
+    × (length marks ≡ 256)
     × ((first : List ℕ) → n ≤ length first
     → ds₀ ≡ written first 0 (descsTo (result o a da x b db y) 0 ++ replicate (n - 0) 0)
     → ds ≡ written first 0 (descsTo (result o a da x b db y) k ++ replicate (n - k) 0))
+    × Fresh marks (k + 1)
 
 abbrev μ-loop : tie.MeasureT-loop
-μ-loop o a da x b db y n ds₀ made₀ at₀ bt₀ k₀ ds made at bt k = n - k
+μ-loop o a da x b db y n ds₀ marks₀ at₀ bt₀ k₀ ds marks at bt k = n - k
 
 clear-requires : tie.Need-clear-requires Inv-loop μ-loop
 clear-requires c κs =
@@ -47,6 +50,7 @@ loop-holds c =
       refl,
       refl,
       λ f h q. q,
+      start-fresh,
     )
 
 descriptor-at-requires : tie.Need-descriptor-at-requires Inv-loop μ-loop
@@ -103,7 +107,22 @@ loop-again c =
           loop .inv .5 f h q ∙ ap (λ (s : List ℕ). written f 0 s)
           (zeros-past (args .o) _ _ (args .x) _ _ (args .y) (pre .0) (loop .k) (c .pass-empty .result) up e
           (args .n) (c .pass-empty .ensures .1)),
+      later-fresh _ (loop .k + 1) (c .pass-empty .result + 1) (omega arith) (loop .inv .6),
     )
+
+add-pair-count : tie.Need-add-pair-count Inv-loop μ-loop
+add-pair-count c =
+    let pre =
+    c .before .before .before .before .before .before .before .before .before .before .before .before .before .before .before .pre in
+    let loop-test = c .before .before .before .before .loop-test in
+    omega (arith, pre .1, loop-test .taken)
+
+cast-pair-count : tie.Need-cast-pair-count Inv-loop μ-loop
+cast-pair-count c =
+    let pre =
+    c .before .before .before .before .before .before .before .before .before .before .before .before .before .before .before .pre in
+    let loop-test = c .before .before .before .before .loop-test in
+    omega (arith, pre .1, loop-test .taken)
 
 slice-aggregate-pair-count : tie.Need-slice-aggregate-pair-count Inv-loop μ-loop
 slice-aggregate-pair-count c =
@@ -121,9 +140,9 @@ pair-count-requires c κs =
     let descriptor-at2 = c .before .before .before .descriptor-at2 in (
       rw (descriptor-at .ensures) (side-room _ _ (args .x) (pre .0 .first) (loop .k) (loop .at) (loop .inv .1)),
       rw (descriptor-at2 .ensures) (side-room _ _ (args .y) (pre .0 .second) (loop .k) (loop .bt) (loop .inv .2)),
-      omega (arith, loop .inv .4),
       rw (descriptor-at .ensures) (side-ok _ _ (args .x) (pre .0 .first) (loop .k) (loop .at) (loop .inv .1)),
       rw (descriptor-at2 .ensures) (side-ok _ _ (args .y) (pre .0 .second) (loop .k) (loop .bt) (loop .inv .2)),
+      loop .inv .6,
     )
 
 descriptor-requires : tie.Need-descriptor-requires Inv-loop μ-loop
@@ -210,7 +229,7 @@ loop-again-2 c =
     let descriptor-at = c .before .before .before .before .before .before .before .before .before .descriptor-at in
     let descriptor-at2 = c .before .before .before .before .before .before .before .before .descriptor-at2 in
     let pair-count = c .before .before .before .before .pair-count in
-    let made = pair-count .ensures ∙ sym
+    let made = sym
     (ap length
     (next-cut (args .o) _ _ (args .x) _ _ (args .y) (pre .0) (loop .k) (loop .at) (loop .bt) _ _
     (loop .inv .1) (loop .inv .2) (descriptor-at .ensures) (descriptor-at2 .ensures))) in (
@@ -220,12 +239,13 @@ loop-again-2 c =
       place-next _ _ (args .y) (pre .0 .second) (loop .k) (loop .bt) _ (loop .inv .2)
           (c .size-of2 .ensures ∙ ap sizeOf (descriptor-at2 .ensures)),
       simp length-set (loop .inv .3),
-      pair-count .kept .1 .1 .1 .1 .1 .1 .1 .0 ∙ loop .inv .4,
+      pair-count .kept .1 .1 .1 .1 .1 .1 .1 .1 .0 ∙ loop .inv .4,
       λ f h q.
           desc-over
           (result (args .o) (args .a .now) (args .da .now) (args .x) (args .b .now) (args .db .now) (args .y)) f
-          (loop .ds) (args .n) (loop .k) _ (pair-count .result) (loop-test .taken) made
-          (c .before .before .descriptor .ensures) (loop .inv .5 f h q),
+          (loop .ds) (args .n) (loop .k) _ _ (loop-test .taken) made
+          (c .before .before .descriptor .ensures ∙ pair-count .ensures .0) (loop .inv .5 f h q),
+      pair-count .ensures .1,
     )
 
 same-length : tie.Need-same-length Inv-loop μ-loop
@@ -271,6 +291,8 @@ describe-spec =
     pass-empty-requires
     loop-less
     loop-again
+    add-pair-count
+    cast-pair-count
     slice-aggregate-pair-count
     pair-count-requires
     descriptor-requires
