@@ -1,5 +1,6 @@
 // Two judged bitmaps combined, each pair of containers once: descriptors, members and bytes in one pass, or descriptors
-// alone. Inner: no entry point. put_alone is called from two places, so that it stays out of the loop.
+// alone. Inner: no entry point. put_alone and put_filtered are called from two places, so that they stay out of the
+// loop.
 ghost use mathlib.Core.Path.{_≡_};
 ghost use mathlib.Core.Bool.{true, false};
 ghost use mathlib.Core.List.{_++_};
