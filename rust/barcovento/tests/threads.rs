@@ -453,7 +453,7 @@ fn stack_of(ask: fn(&Inputs, &mut Outputs), inputs: &Inputs, outputs: &mut Outpu
 
 /// The header's table of stack: KiB for each call.
 fn told_stack() -> Vec<(&'static str, usize)> {
-    let table = HEADER.split("Stack, in KiB").nth(1).unwrap().split("*/").next().unwrap();
+    let table = HEADER.split("Stack, in KiB").nth(1).unwrap().split("Refusals:").next().unwrap();
     let mut told = Vec::new();
     for line in table.lines() {
         let mut words = line.split_whitespace().skip(1);
