@@ -22,8 +22,8 @@ APART = [
     ("crates/store_laws/proofs", "put_on", "put_on_lem"),
     ("crates/judge/proofs", "low_bit", "low_bit_lem"),
 ]
-# Crates that cite the definition `result`.
-RESULT = ["pair_write", "pair_place"]
+# Crates that cite the definition `result`, the last one in its proofs alone.
+RESULT = ["pair_write", "pair_place", "bitmap_combine"]
 
 
 def snake(word):
@@ -90,7 +90,7 @@ def main(top):
                     write(path, code_lines(text, "--", lambda l: word(l, old, new)))
     for crate in RESULT:
         for path in files(top, ".antt", ".rt"):
-            if f"/crates/{crate}/" in path:
+            if f"/crates/{crate}/" in path and (crate != "bitmap_combine" or path.endswith(".antt")):
                 mark = "--" if path.endswith(".antt") else "//"
                 text = code_lines(read(path), mark, lambda l: word(l, "result", "result_of"))
                 write(path, without_binders(text))

@@ -1,4 +1,0 @@
-pub mod Lists
-pub mod Calls
-pub mod Outcomes
-pub mod LowBits
