@@ -1,3 +1,5 @@
+#![tactic(auto)]
+
 // Values packed into bits, the first in the highest bits. Inner: no entry point.
 ghost use Rattle.std.specs.Prelude.{◌≡◌, ◌+◌, ◌-◌, ◌*◌, ◌/◌, ◌%◌, ◌^◌, ◌≤◌, ◌<◌, length, get_or};
 ghost use Rattle.common.specs.Bytes.{ceil8};

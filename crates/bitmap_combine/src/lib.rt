@@ -1,3 +1,5 @@
+#![tactic(auto)]
+
 // Combining two bitmaps: union, intersection, difference and symmetric difference, each written in the one form.
 // The first bitmap is judged wholly before the second (refusals 1 to 11), then room (13).
 // A refusal leaves the output as it was.

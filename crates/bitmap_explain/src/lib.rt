@@ -1,3 +1,5 @@
+#![tactic(auto)]
+
 // Why a bitmap is refused.
 ghost use Rattle.std.specs.Prelude.{◌≡◌, length};
 ghost use Rattle.bitmap_explain_spec.specs.Explain.{fault_of, explained};

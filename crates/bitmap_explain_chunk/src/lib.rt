@@ -1,3 +1,5 @@
+#![tactic(auto)]
+
 // The fault of one chunk that was refused. Inner: no entry point.
 ghost use Rattle.std.specs.Prelude.{◌≡◌, true, ◌+◌, ◌*◌, ◌≤◌, ◌<◌, length, take, drop};
 ghost use Rattle.common.specs.Lists.{rising};

@@ -1,7 +1,8 @@
 // Why a bitmap is refused: the type that the definitions (specs/) and the code share. Inner: no entry point.
+#![tactic(auto)]
 
 // What is told of a refused bitmap. All five are 0 where there is no fault.
-#[derive(Drop)]
+#[derive(Clone, Copy)]
 pub struct Fault {
     // the refusal, 1 to 11
     pub number: u32,

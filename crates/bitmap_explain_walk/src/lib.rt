@@ -1,3 +1,5 @@
+#![tactic(auto)]
+
 // The first fault of all chunks, and of what follows them. Inner: no entry point.
 ghost use Rattle.std.specs.Prelude.{◌≡◌, [], ◌+◌, ◌*◌, ◌≤◌, ◌<◌, length, take};
 ghost use Rattle.common.specs.Lists.{sum};
@@ -10,7 +12,7 @@ use bitmap_explain_spec::Fault;
 use chunk_read::Step;
 
 // The first fault, or where the chunks end.
-#[derive(Drop)]
+#[derive(Clone, Copy)]
 pub enum Walk {
     Broken(Fault),
     Next(usize),
@@ -30,7 +32,7 @@ pub fn fault_of_whole(number: u32, byte: usize, found: usize, wanted: usize) -> 
 }
 
 // The containers before the first that is not well formed: how many, where they end, and how many members they have.
-#[derive(Drop)]
+#[derive(Clone, Copy)]
 struct Leading {
     count: usize,
     end: usize,

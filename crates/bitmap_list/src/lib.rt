@@ -1,3 +1,5 @@
+#![tactic(auto)]
+
 // Listing a bitmap's members by pages. Place and finished mark go in and out by value.
 ghost use Rattle.std.specs.Prelude.{◌≡◌, ◌+◌, ◌*◌, ◌≤◌, ◌<◌, length, get_or, take, drop};
 ghost use Rattle.bitmap_spec.specs.Judge.{size_of, dense, container, members_from};
@@ -10,14 +12,14 @@ use bitmap_spec::Listing;
 use judge::Judged;
 
 // A refusal's number; or how many members the page gives, and where the listing then stands.
-#[derive(Drop)]
+#[derive(Clone, Copy)]
 pub enum Paged {
     Refused(u32),
     Page { given: usize, next: Listing },
 }
 
 // How many members a page takes, the place after the last of them, and whether none remains.
-#[derive(Drop)]
+#[derive(Clone, Copy)]
 struct Run {
     given: usize,
     place: u32,

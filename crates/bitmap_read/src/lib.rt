@@ -1,3 +1,5 @@
+#![tactic(auto)]
+
 // Questions to a bitmap: is it accepted and how many members it has, is a position a member, how many members lie below it.
 ghost use Rattle.std.specs.Prelude.{◌≡◌, ◌+◌, ◌≤◌, ◌<◌, length, take, drop};
 ghost use Rattle.common.specs.Lists.{mem};
@@ -9,21 +11,21 @@ ghost use Rattle.bitmap_read.specs.Post.{checked, probed, ranked};
 use judge::Judged;
 
 // A refusal's number, or how many members there are.
-#[derive(Drop)]
+#[derive(Clone, Copy)]
 pub enum Checked {
     Refused(u32),
     Cardinality(u32),
 }
 
 // A refusal's number, or whether the position is a member.
-#[derive(Drop)]
+#[derive(Clone, Copy)]
 pub enum Probed {
     Refused(u32),
     Member(bool),
 }
 
 // A refusal's number, or how many members lie below the position.
-#[derive(Drop)]
+#[derive(Clone, Copy)]
 pub enum Ranked {
     Refused(u32),
     Below(u32),

@@ -1,3 +1,5 @@
+#![tactic(auto)]
+
 // The written form of a judged bitmap: its descriptors settled, its header and descriptor chunks written anew, its containers' bytes as
 // they are. Inner: no entry point.
 ghost use Rattle.std.specs.Prelude.{◌≡◌, ℕ, ◌+◌, ◌≤◌, ◌<◌, min, length, get_or, take};
@@ -8,7 +10,7 @@ ghost use Rattle.bitmap_rewrite.specs.Settled.{Settled, laid, Prepares};
 use judge::Judged;
 
 // A bitmap's refusal; or how many descriptors its form has, where its containers start, its cardinality, and the form's length.
-#[derive(Drop)]
+#[derive(Clone, Copy)]
 pub enum Prepared {
     Refused(u32),
     Form {

@@ -1,8 +1,9 @@
 // The bitmap format: the types that its definitions and its code share. The definitions are in specs/, their first laws in proofs/.
 // Inner: no entry point.
+#![tactic(auto)]
 
 // A chunk's three header bytes, and where its three arrays start in the bitmap.
-#[derive(Drop)]
+#[derive(Clone, Copy)]
 pub struct ChunkHead {
     // the bits of a primary value
     pub b1: u32,
@@ -21,7 +22,7 @@ pub struct ChunkHead {
 }
 
 // The four ways to combine two sets. 01 calls the last one either-but-not-both.
-#[derive(Drop)]
+#[derive(Clone, Copy)]
 pub enum Operation {
     Union,
     Intersection,
@@ -30,14 +31,14 @@ pub enum Operation {
 }
 
 // Where a page listing stands between two calls: 01's place (the next position to look at) and finished mark.
-#[derive(Drop)]
+#[derive(Clone, Copy)]
 pub struct Listing {
     pub place: u32,
     pub finished: bool,
 }
 
 // The answer of a call that writes a bitmap: the refusal's number, or how many bytes the form takes.
-#[derive(Drop)]
+#[derive(Clone, Copy)]
 pub enum Written {
     Refused(u32),
     Length(usize),

@@ -1,3 +1,5 @@
+#![tactic(auto)]
+
 // Writing a list of positions as a bitmap, in the one written form.
 // A first pass finds the descriptors and so the form's length; the second writes, container by container.
 ghost use Rattle.std.specs.Prelude.{◌≡◌, true, map, ◌+◌, ◌-◌, ◌*◌, ◌≤◌, ◌<◌, min, length};

@@ -1,3 +1,5 @@
+#![tactic(auto)]
+
 // A container as a block of 32 bytes whose bits are its members: loaded, joined, counted, written. Inner: no entry
 // point.
 ghost use Rattle.std.specs.Prelude.{◌≡◌, ℕ, ◌+◌, ◌*◌, ◌≤◌, ◌<◌, length, get_or, take, drop};
@@ -33,7 +35,7 @@ pub fn load_sparse(s: &[u8], at: usize, n: usize) -> [u8; 32]
 }
 
 // What an operation does with the bits of the first, of the second and of both, as bytes of ones or zeros.
-#[derive(Drop)]
+#[derive(Clone, Copy)]
 struct Masks {
     first: u8,
     second: u8,

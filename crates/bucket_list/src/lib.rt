@@ -1,3 +1,5 @@
+#![tactic(auto)]
+
 // Buckets by pages: the schema and the bucket are judged once, then a column's rows from a place on are listed.
 ghost use Rattle.std.specs.Prelude.{◌≤◌, length};
 ghost use Rattle.row_spec.specs.Page.{Paged};
@@ -11,7 +13,7 @@ mod column;
 mod entries;
 
 // Rows of a column: whether it has null bits and at which byte, which row is the first, and how many there are.
-#[derive(Drop)]
+#[derive(Clone, Copy)]
 pub struct Rows {
     pub mapped: bool,
     pub nulls: usize,
@@ -20,7 +22,7 @@ pub struct Rows {
 }
 
 // A table: where its entries start and how many there are, how many bits an index has, and where the indexes start.
-#[derive(Drop)]
+#[derive(Clone, Copy)]
 pub struct Table {
     pub from: usize,
     pub entries: usize,
@@ -29,7 +31,7 @@ pub struct Table {
 }
 
 // A column's tag, and where its CONST value, its DICT table and its data start.
-#[derive(Drop)]
+#[derive(Clone, Copy)]
 pub struct Pieces {
     pub tag: u32,
     pub start: usize,

@@ -1,3 +1,5 @@
+#![tactic(auto)]
+
 // A whole bucket, part by part and column by column. Inner: no entry point.
 mod part;
 mod whole;

@@ -1,14 +1,15 @@
 // The types of the bucket readers. Inner: types and definitions (specs/), no entry point.
+#![tactic(auto)]
 
 // The place of the next byte, or a refusal.
-#[derive(Drop)]
+#[derive(Clone, Copy)]
 pub enum Next {
     At(usize),
     Refused(u32),
 }
 
 // Where a bucket's tags and has-nulls bits start, and its number of rows.
-#[derive(Drop)]
+#[derive(Clone, Copy)]
 pub struct Frame {
     pub tags: usize,
     pub has: usize,

@@ -1,3 +1,5 @@
+#![tactic(auto)]
+
 // Buckets: the whole bucket is judged, then a question is answered from the asked column's pieces.
 ghost use Rattle.std.specs.Prelude.{◌≡◌};
 ghost use Rattle.common.specs.Outcome.{status};
@@ -51,7 +53,7 @@ pub fn field(schema_bytes: &[u8], rows: u32, bucket: &[u8], row: u32, column: u3
 
 // The bytes of text, bytes or a large DECIMAL as they lie in the bucket; empty for any other answer or a refusal.
 pub fn part<'a>(schema_bytes: &[u8], rows: u32, bucket: &'a [u8], row: u32, column: u32) -> &'a [u8]
-    ensures { VeryPart (bucket_field schema_bytes.now rows bucket.now row column) bucket.now result.now bucket.entry.ptr result.ref_ptr }
+    ensures { VeryPart (bucket_field schema_bytes.now rows bucket.now row column) bucket.now result.now bucket.entry.ref_ptr result.ref_ptr }
 {
     values::part(bucket, field(schema_bytes, rows, bucket, row, column))
 }

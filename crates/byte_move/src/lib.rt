@@ -1,3 +1,5 @@
+#![tactic(auto)]
+
 // Bytes copied from one slice to another, and moved up or down within one. Inner: no entry point.
 ghost use Rattle.std.specs.Prelude.{◌≡◌, ◌+◌, ◌≤◌, length, take, drop};
 ghost use Rattle.bitmap_spec.specs.Output.{written};

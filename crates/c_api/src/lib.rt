@@ -1,3 +1,5 @@
+#![tactic(auto)]
+
 // The C interface (include/barcovento.h): each call is handed on to the plain function of its name. Every call returns 0 and sets its
 // outputs, or returns the refusal's number and leaves every output untouched.
 mod bitmap_reading;

@@ -1,3 +1,5 @@
+#![tactic(auto)]
+
 // The bitmap calls of the C interface as plain functions, which c_api hands on. Every call returns 0 and sets its outputs, or returns
 // the refusal's number and leaves every output untouched.
 mod reading;

@@ -1,3 +1,5 @@
+#![tactic(auto)]
+
 // The call of the C interface that says why a bitmap is refused, as a plain function, which c_api hands on.
 ghost use Rattle.std.specs.Prelude.{◌≡◌};
 ghost use Rattle.bitmap_explain_spec.specs.Explain.{fault, fault_of, explained};

@@ -1,3 +1,5 @@
+#![tactic(auto)]
+
 // The page calls of row blocks and buckets in the C interface as plain functions, which c_api hands on. Every call returns 0 and sets
 // its outputs, or returns the refusal's number and leaves every output untouched.
 ghost use Rattle.std.specs.Prelude.{length};

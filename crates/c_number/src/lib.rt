@@ -1,3 +1,5 @@
+#![tactic(auto)]
+
 // The call of the C interface that reads a number, as a plain function, which c_api hands on.
 ghost use Rattle.std.specs.Prelude.{◌≡◌, ◌≤◌};
 ghost use Rattle.row_spec.specs.Varint.{varint_at, on_varint};

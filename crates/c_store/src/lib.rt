@@ -1,3 +1,5 @@
+#![tactic(auto)]
+
 // The calls of the C interface on a store as plain functions, which c_api hands on. Every call returns 0 and does its work, or returns
 // the refusal's number and leaves buffer, directory and every output untouched.
 ghost use Rattle.std.specs.Prelude.{◌≡◌, length};

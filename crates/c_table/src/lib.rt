@@ -1,3 +1,5 @@
+#![tactic(auto)]
+
 // The schema, row block and bucket calls of the C interface as plain functions, which c_api hands on. Every call returns 0 and sets
 // its outputs, or returns the refusal's number and leaves every output untouched.
 mod block_calls;

@@ -1,3 +1,5 @@
+#![tactic(auto)]
+
 // A chunk's values less m, and the offsets and high parts of its exceptions. Inner: no entry point.
 ghost use Rattle.std.specs.Prelude.{◌≡◌, map, ℕ, ◌+◌, ◌-◌, ◌*◌, ◌/◌, ◌%◌, ◌^◌, ◌≤◌, ◌<◌, length, get_or};
 ghost use Rattle.bitmap_spec.specs.Output.{written};

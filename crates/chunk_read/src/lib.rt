@@ -1,3 +1,5 @@
+#![tactic(auto)]
+
 // Reading one chunk of descriptors. Inner: no entry point.
 ghost use Rattle.std.specs.Prelude.{◌≡◌, ◌+◌, ◌-◌, ◌*◌, ◌/◌, ◌%◌, ◌^◌, ◌≤◌, ◌<◌, length, take, drop};
 ghost use Rattle.common.specs.Lists.{rising};
@@ -8,7 +10,7 @@ ghost use Rattle.chunk_read.specs.Post.{Decoded, Wrote, primary_of, Plain, Patch
 use bitmap_spec::ChunkHead;
 
 // A refusal's number, or where the next chunk starts.
-#[derive(Drop)]
+#[derive(Clone, Copy)]
 pub enum Step {
     Refused(u32),
     Next(usize),

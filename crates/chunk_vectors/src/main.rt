@@ -1,5 +1,7 @@
 // Source 002's five chunks: their values as plain bytes, their judgement as descriptors, and the chunk that is written of
 // these. The lines are compared with the file stdout.
+#![tactic(auto)]
+
 ghost use Rattle.std.specs.Prelude.{◌≡◌, false, ◌+◌, ◌*◌, ◌≤◌, ◌<◌, length};
 ghost use Rattle.bitmap_spec.specs.Judge.{head_at, part, descriptor};
 ghost use Rattle.bitmap_laws.proofs.Values.{AllLe};
@@ -7,6 +9,8 @@ ghost use Rattle.chunk_vectors.specs.Within.{Laid, Within};
 
 use bitmap_spec::ChunkHead;
 use chunk_read::Step;
+use std::io;
+use std::io::Write;
 
 // What the exceptions add to value i, in units of 2^b1.
 fn part_of(s: &[u8], h: ChunkHead, i: usize) -> u32
@@ -56,33 +60,32 @@ fn head_of(s: &[u8], n: usize) -> ChunkHead
 }
 
 // Prints the n values.
-fn show(s: &[u8], h: ChunkHead, n: usize)
+fn show<W: Write>(to: &mut W, s: &[u8], h: ChunkHead, n: usize) -> io::Result<()>
     requires { (h.m < 256) × Within s.now h n }
 {
-    let mut i: usize = 0;
-    while i < n {
-        io::write_all(1, b" ");
-        io::print_decimal(1, value_of(s, h, n, i) as u64);
-        i += 1;
+    for i in 0..n {
+        let value = value_of(s, h, n, i);
+        write!(to, " {value}")?;
     }
+    Ok(())
 }
 
 // Prints the n values of the chunk, if its arrays lie within the bytes.
-fn values(s: &[u8], n: usize) {
+fn values<W: Write>(to: &mut W, s: &[u8], n: usize) -> io::Result<()> {
     if s.len() < 3 {
-        return;
+        return Ok(());
     }
     if 256 < n {
-        return;
+        return Ok(());
     }
     let h = head_of(s, n);
     if 8 < h.b1 + h.b2 {
-        return;
+        return Ok(());
     }
     if s.len() < h.parts + (h.e * (h.b2 as usize) + 7) / 8 {
-        return;
+        return Ok(());
     }
-    show(s, h, n);
+    show(to, s, h, n)
 }
 
 // Whether any is over 63.
@@ -100,54 +103,51 @@ fn any_large(ds: &[u8]) -> bool
 }
 
 // Prints the chunk that is written of descriptors up to 63.
-fn written(ds: &[u8]) {
+fn written<W: Write>(to: &mut W, ds: &[u8]) -> io::Result<()> {
     let mut out = [0u8; 195];
     if ds.len() == 0 {
-        return;
+        return Ok(());
     }
     if 256 < ds.len() {
-        return;
+        return Ok(());
     }
     if any_large(ds) {
-        return;
+        return Ok(());
     }
     let size = chunk_write::put_chunk(ds, &mut out, 0);
-    vector_text::print(b"; written ");
-    vector_text::print_bytes(&out[..size]);
+    vector_text::print(to, b"; written ")?;
+    vector_text::print_bytes(to, &out[..size])
 }
 
 // Prints how the chunk is judged as n descriptors, and what is written of them.
-fn judged(s: &[u8], n: usize) {
+fn judged<W: Write>(to: &mut W, s: &[u8], n: usize) -> io::Result<()> {
     let mut out = [0u8; 256];
     if 256 < n {
-        return;
+        return Ok(());
     }
     match chunk_read::chunk_at(s, 0, n, &mut out, 0) {
-        Step::Refused(r) => {
-            io::write_all(1, b"; refused ");
-            io::print_decimal(1, r as u64);
-        }
+        Step::Refused(r) => write!(to, "; refused {r}"),
         Step::Next(at) => {
-            io::write_all(1, b"; accepted, bytes ");
-            io::print_decimal(1, at as u64);
-            written(&out[..n]);
+            write!(to, "; accepted, bytes {at}")?;
+            written(to, &out[..n])
         }
     }
 }
 
 // One line.
-fn line(s: &[u8], n: usize) {
-    io::print_decimal(1, n as u64);
-    io::write_all(1, b" values:");
-    values(s, n);
-    judged(s, n);
-    io::write_all(1, b"\n");
+fn line<W: Write>(to: &mut W, s: &[u8], n: usize) -> io::Result<()> {
+    write!(to, "{n} values:")?;
+    values(to, s, n)?;
+    judged(to, s, n)?;
+    writeln!(to)
 }
 
-fn main() {
-    line(b"\x00\x00\x00", 256);
-    line(b"\x00\x00\x05", 51);
-    line(b"\x80\x02\x00\x04\x07\xff\xfe", 8);
-    line(b"\x02\x00\x06\x18", 3);
-    line(b"\x32\x01\x06\x09\x01\xe0", 4);
+fn main(rt: HostRuntime) -> io::Result<()> {
+    let mut to = io::writer(&rt);
+    line(&mut to, b"\x00\x00\x00", 256)?;
+    line(&mut to, b"\x00\x00\x05", 51)?;
+    line(&mut to, b"\x80\x02\x00\x04\x07\xff\xfe", 8)?;
+    line(&mut to, b"\x02\x00\x06\x18", 3)?;
+    line(&mut to, b"\x32\x01\x06\x09\x01\xe0", 4)?;
+    to.flush()
 }

@@ -1,3 +1,5 @@
+#![tactic(auto)]
+
 // One chunk of descriptors, written. Inner: no entry point.
 ghost use Rattle.std.specs.Prelude.{◌≡◌, [], ◌∷◌, map, ℕ, ◌+◌, ◌-◌, ◌*◌, ◌/◌, ◌%◌, ◌^◌, ◌≤◌, ◌<◌, length, get_or, take, drop, eqb};
 ghost use Rattle.common.specs.Bytes.{ceil8};

@@ -1,3 +1,5 @@
+#![tactic(auto)]
+
 // All chunks of descriptors, written. Inner: no entry point.
 ghost use Rattle.std.specs.Prelude.{◌≡◌, List, ◌⊎◌, ℕ, ◌+◌, ◌-◌, ◌*◌, ◌/◌, ◌≤◌, ◌<◌, length};
 ghost use Rattle.bitmap_spec.specs.Form.{write_chunks};

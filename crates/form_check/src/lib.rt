@@ -1,3 +1,5 @@
+#![tactic(auto)]
+
 // Whether bytes are the written form of the set that they stand for: they are judged, their descriptors must be those of a form, and the
 // least value, widths and number of exceptions of each chunk those of its written form. Inner: no entry point.
 ghost use Rattle.std.specs.Prelude.{◌≡◌, ◌/◌, ◌≤◌, ◌<◌, length, eqb};

@@ -1,3 +1,5 @@
+#![tactic(auto)]
+
 // A form's length, header and descriptor chunks, from its descriptors. Inner: no entry point.
 ghost use Rattle.std.specs.Prelude.{◌≡◌, ◌++◌, ◌+◌, ◌/◌, ◌≤◌, ◌<◌, length};
 ghost use Rattle.common.specs.Lists.{sum};

@@ -1,3 +1,5 @@
+#![tactic(auto)]
+
 // Judging a whole bitmap: its refusal, or its descriptors and where its containers start. Inner: no entry point.
 ghost use Rattle.std.specs.Prelude.{◌≡◌, true, [], ◌+◌, ◌*◌, ◌≤◌, ◌<◌, length, take, drop};
 ghost use Rattle.common.specs.Lists.{sum, rising};
@@ -10,7 +12,7 @@ ghost use Rattle.judge.specs.Post.{counted, size_of_set, Listed, Held, SliceView
 use chunk_read::Step;
 
 // A bitmap's refusal; or how many descriptors it has, where its containers start, and its cardinality.
-#[derive(Drop)]
+#[derive(Clone, Copy)]
 pub enum Judged {
     Refused(u32),
     Accepted {
@@ -21,21 +23,21 @@ pub enum Judged {
 }
 
 // A refusal's number, or how many members there are.
-#[derive(Drop)]
+#[derive(Clone, Copy)]
 enum Counted {
     Refused(u32),
     Members(u32),
 }
 
 // Whether a container is well formed, and how many members it has.
-#[derive(Drop)]
+#[derive(Clone, Copy)]
 pub struct Container {
     pub ok: bool,
     pub members: u32,
 }
 
 // Whether the next containers rise, how many they are, and how many bytes they have.
-#[derive(Drop)]
+#[derive(Clone, Copy)]
 struct Passed {
     ok: bool,
     count: usize,

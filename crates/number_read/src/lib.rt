@@ -1,4 +1,6 @@
 // The number in groups of seven bits at the front of any bytes, shortest or padded.
+#![tactic(auto)]
+
 ghost use Rattle.std.specs.Prelude.{◌≡◌};
 ghost use Rattle.row_spec.specs.Varint.{varint_at};
 

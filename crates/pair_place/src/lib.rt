@@ -1,3 +1,5 @@
+#![tactic(auto)]
+
 // The form of two judged bitmaps combined: by way of an array if it is small, else made in the output itself. Inner: no
 // entry point.
 ghost use Rattle.std.specs.Prelude.{◌≡◌, ◌++◌, map, ◌+◌, ◌-◌, ◌*◌, ◌/◌, ◌≤◌, ◌<◌, max, min, length, take, drop, leb};

@@ -1,3 +1,5 @@
+#![tactic(auto)]
+
 // Two judged bitmaps combined, each pair of containers once: descriptors, members and bytes in one pass, or descriptors
 // alone. Inner: no entry point. put_alone and put_filtered are called from two places, so that they stay out of the
 // loop.
@@ -14,14 +16,14 @@ ghost use Rattle.pair_write.specs.Sides.{desc_at, half_holds, pair_holds, pair_m
 use bitmap_spec::Operation;
 
 // Where a judged bitmap's containers lie: how many descriptors it has, and where its containers start.
-#[derive(Drop)]
+#[derive(Clone, Copy)]
 pub struct Side {
     pub count: usize,
     pub start: usize,
 }
 
 // Where the pass over the pairs stands: the members and bytes of the containers passed, and where the next two lie.
-#[derive(Drop)]
+#[derive(Clone, Copy)]
 pub struct Reached {
     pub card: u32,
     pub size: usize,

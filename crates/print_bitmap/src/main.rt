@@ -1,11 +1,14 @@
 // Reads up to 65,536 bytes from standard input and prints what they say as a bitmap: `refused N`, or the count and the members,
 // one to a line. More bytes are `too long`, before any refusal.
+#![tactic(auto)]
+
 ghost use Rattle.std.specs.Prelude.{◌≡◌, ◌≤◌, length};
 
 use bitmap_list::Paged;
 use bitmap_read::Checked;
 use bitmap_spec::Listing;
-use libc::{STDIN_FILENO, STDOUT_FILENO};
+use std::io;
+use std::io::Write;
 
 // Room for the longest input and one byte more.
 fn room() -> [u8; 65537]
@@ -15,74 +18,70 @@ fn room() -> [u8; 65537]
 }
 
 // Prints a number and ends the line.
-fn print_line(n: u32) {
-    io::print_decimal(STDOUT_FILENO, n as u64);
-    io::write_all(STDOUT_FILENO, b"\n");
+fn print_line<W: Write>(to: &mut W, n: u32) -> io::Result<()> {
+    writeln!(to, "{n}")
 }
 
 // Prints the first n numbers of the list, one to a line.
-fn print_members(list: &[u32], n: usize) {
-    let mut i: usize = 0;
-    while i < n {
-        if list.len() <= i {
-            return;
-        }
-        print_line(list[i]);
-        i += 1;
+fn print_members<W: Write>(to: &mut W, list: &[u32], n: usize) -> io::Result<()> {
+    for member in list.iter().take(n) {
+        print_line(to, *member)?;
     }
+    Ok(())
 }
 
 // Prints one page of members and says where the listing then stands.
-fn print_page(s: &[u8], at: Listing) -> Listing {
+fn print_page<W: Write>(to: &mut W, s: &[u8], at: Listing) -> io::Result<Listing> {
     let mut list = [0u32; 256];
     match bitmap_list::page(s, at, &mut list) {
-        Paged::Refused(_) => Listing {
+        Paged::Refused(_) => Ok(Listing {
             place: at.place,
             finished: true,
-        },
+        }),
         Paged::Page { given, next } => {
-            print_members(&list, given);
-            next
+            print_members(to, &list, given)?;
+            Ok(next)
         }
     }
 }
 
 // Prints all members. They fill at most 8,192 pages of 256, and the last page says that it is the last.
-fn print_all(s: &[u8]) {
+fn print_all<W: Write>(to: &mut W, s: &[u8]) -> io::Result<()> {
     let mut at = Listing {
         place: 0,
         finished: false,
     };
-    let mut pages: usize = 8192;
-    while 0 < pages {
-        at = print_page(s, at);
+    for _ in 0..8192 {
+        at = print_page(to, s, at)?;
         if at.finished {
-            return;
+            return Ok(());
         }
-        pages -= 1;
     }
+    Ok(())
 }
 
-fn print_bitmap(s: &[u8]) {
+fn print_bitmap<W: Write>(to: &mut W, s: &[u8]) -> io::Result<()> {
     match bitmap_read::check(s) {
         Checked::Refused(n) => {
-            io::write_all(STDOUT_FILENO, b"refused ");
-            print_line(n);
+            vector_text::print(to, b"refused ")?;
+            print_line(to, n)
         }
         Checked::Cardinality(n) => {
-            io::write_all(STDOUT_FILENO, b"count ");
-            print_line(n);
-            print_all(s);
+            vector_text::print(to, b"count ")?;
+            print_line(to, n)?;
+            print_all(to, s)
         }
     }
 }
 
-fn main() {
+fn main(rt: HostRuntime) -> io::Result<()> {
     let mut bytes = room();
-    let n = io::read_full(STDIN_FILENO, &mut bytes);
+    let n = vector_text::read_full(&mut rt.reader(), &mut bytes)?;
+    let mut to = io::writer(&rt);
     if 65536 < n {
-        io::write_all(STDOUT_FILENO, b"too long\n");
-        return;
+        vector_text::print(&mut to, b"too long\n")?;
+    } else {
+        print_bitmap(&mut to, &bytes[..n])?;
     }
-    print_bitmap(&bytes[..n]);
+    to.flush()
 }

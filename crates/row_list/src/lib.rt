@@ -1,3 +1,5 @@
+#![tactic(auto)]
+
 // Row blocks by pages: the schema and the block are judged once, then the rows from a place on are listed.
 ghost use Rattle.std.specs.Prelude.{◌≡◌, map, ◌≤◌, ◌+◌, ◌*◌, length, take};
 ghost use Rattle.row_spec.specs.Schema.{columns_of};

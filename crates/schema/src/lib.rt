@@ -1,3 +1,5 @@
+#![tactic(auto)]
+
 // Schemas: the columns of a row block or a bucket, read from bytes. Every fault is the refusal 20.
 ghost use Rattle.std.specs.Prelude.{◌≡◌, ◌≤◌};
 ghost use Rattle.row_spec.specs.Schema.{held, schema, column_count, column_of};

@@ -1,16 +1,19 @@
 // Lists bitmaps by pages through bitmap_step::page, with the listing held in a local and lent by `&mut`. A line of standard input
 // has the listing, the room and the bitmap; for each page the answer, the whole list, where 7777777 was left as it was, the place
 // and the mark. A listing that is finished is asked once more.
+#![tactic(auto)]
+
 ghost use Rattle.std.specs.Prelude.{length};
 ghost use Rattle.bitmap_spec.specs.Ask as ask;
 ghost use Rattle.bitmap_step.specs.Post.{Steps};
 
 use bitmap_spec::Listing;
 use bitmap_step::Given;
-use libc::STDIN_FILENO;
+use std::io;
+use std::io::Write;
 
 // A turn of a listing: where it then stands, and the answer.
-#[derive(Drop)]
+#[derive(Clone, Copy)]
 struct Turn {
     place: u32,
     finished: bool,
@@ -38,30 +41,29 @@ fn yes(b: bool) -> u64 {
     if b { 1 } else { 0 }
 }
 
-fn print_list(list: &[u32]) {
-    let mut i: usize = 0;
-    while i < list.len() {
-        vector_text::print_after(b" ", wide(list[i]));
-        i += 1;
+fn print_list<W: Write>(to: &mut W, list: &[u32]) -> io::Result<()> {
+    for n in list {
+        vector_text::print_after(to, b" ", wide(*n))?;
     }
+    Ok(())
 }
 
 // Prints an answer, and says whether it is a refusal.
-fn print_answer(answer: Given) -> bool {
+fn print_answer<W: Write>(to: &mut W, answer: Given) -> io::Result<bool> {
     match answer {
         Given::Refused(n) => {
-            vector_text::print_after(b"refused ", wide(n));
-            true
+            vector_text::print_after(to, b"refused ", wide(n))?;
+            Ok(true)
         }
         Given::Count(n) => {
-            vector_text::print_after(b"gave ", n as u64);
-            false
+            vector_text::print_after(to, b"gave ", n as u64)?;
+            Ok(false)
         }
     }
 }
 
 // Where a listing stands, and whether it ends here.
-#[derive(Drop)]
+#[derive(Clone, Copy)]
 struct Stand {
     place: u32,
     finished: bool,
@@ -69,72 +71,84 @@ struct Stand {
 }
 
 // A page, and its line.
-fn print_page(s: &[u8], place: u32, finished: bool, list: &mut [u32]) -> Stand {
+fn print_page<W: Write>(
+    to: &mut W,
+    s: &[u8],
+    place: u32,
+    finished: bool,
+    list: &mut [u32],
+) -> io::Result<Stand> {
     let t = one_page(s, place, finished, list);
     let answer = t.answer;
-    let refused = print_answer(answer);
-    vector_text::print(b":");
-    print_list(list);
-    vector_text::print_after(b", place ", wide(t.place));
-    vector_text::print_after(b", mark ", yes(t.finished));
-    vector_text::print(b"\n");
-    Stand {
+    let refused = print_answer(to, answer)?;
+    vector_text::print(to, b":")?;
+    print_list(to, list)?;
+    vector_text::print_after(to, b", place ", wide(t.place))?;
+    vector_text::print_after(to, b", mark ", yes(t.finished))?;
+    vector_text::print(to, b"\n")?;
+    Ok(Stand {
         place: t.place,
         finished: t.finished,
         ends: refused || finished,
-    }
+    })
 }
 
 // Pages of a room of up to 8, until the listing ends, up to 50; one of no room.
-fn print_pages(s: &[u8], place: u32, finished: bool, room: usize) {
+fn print_pages<W: Write>(
+    to: &mut W,
+    s: &[u8],
+    place: u32,
+    finished: bool,
+    room: usize,
+) -> io::Result<()> {
     if 8 < room {
-        return;
+        return Ok(());
     }
     let mut at = Stand {
         place,
         finished,
         ends: false,
     };
-    let mut pages: usize = 50;
-    while 0 < pages {
+    for _ in 0..50 {
         let mut list = [7777777u32; 8];
-        at = print_page(s, at.place, at.finished, &mut list[..room]);
+        at = print_page(to, s, at.place, at.finished, &mut list[..room])?;
         if at.ends {
-            return;
+            return Ok(());
         }
         if room == 0 {
-            return;
+            return Ok(());
         }
-        pages -= 1;
     }
+    Ok(())
 }
 
 // A line that starts with # is printed; any other is `place P, mark M, room N, bitmap` and hexadecimal digits.
-fn show_line(line: &[u8]) {
-    if vector_text::comment(line) {
-        return;
+fn show_line<W: Write>(to: &mut W, line: &[u8]) -> io::Result<()> {
+    if vector_text::comment(to, line)? {
+        return Ok(());
     }
     let mut bytes = [0u8; 1024];
     let n = vector_text::decode(vector_text::word(line, 7), &mut bytes);
     print_pages(
+        to,
         &bytes[..n],
         vector_text::small(vector_text::word(line, 1)),
         vector_text::small(vector_text::word(line, 3)) == 1,
         vector_text::small(vector_text::word(line, 5)) as usize,
-    );
+    )
 }
 
-fn show_lines(text: &[u8]) {
-    let mut at: usize = 0;
-    while at < text.len() {
-        let end = vector_text::find(text, at, b'\n');
-        show_line(&text[at..end]);
-        at = end + 1;
+fn show_lines<W: Write>(to: &mut W, text: &[u8]) -> io::Result<()> {
+    for line in text.split(|c| *c == b'\n') {
+        show_line(to, line)?;
     }
+    Ok(())
 }
 
-fn main() {
-    let mut text = io::large_buffer();
-    let n = io::read_full(STDIN_FILENO, &mut text);
-    show_lines(&text[..n]);
+fn main(rt: HostRuntime) -> io::Result<()> {
+    let mut text = [0u8; 65536];
+    let n = vector_text::read_full(&mut rt.reader(), &mut text)?;
+    let mut to = io::writer(&rt);
+    show_lines(&mut to, &text[..n])?;
+    to.flush()
 }

@@ -1,3 +1,5 @@
+#![tactic(auto)]
+
 // A store of up to 64 numbered bitmaps in one lent buffer, which two owners share: put, fetch and drop of an owner, save and load of both.
 // Owner 0 has slots 0 to 31 and the buffer's first half, owner 1 slots 32 to 63 and the second; half is the length divided by 2, rounded
 // down. The directory has 128 numbers: for slot k, number 2k says where its form starts in its owner's half and number 2k + 1 how long it

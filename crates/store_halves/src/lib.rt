@@ -1,3 +1,5 @@
+#![tactic(auto)]
+
 // One owner's half of a store: its 32 slots judged, saved, and given their entries of saved bytes. Owner o, 0 or 1, has the numbers from
 // 64 · o on and the o-th half of the buffer. Inner: no entry point.
 ghost use Rattle.std.specs.Prelude.{◌≡◌, [], ℕ, ◌+◌, ◌*◌, ◌≤◌, ◌<◌, length};
@@ -14,7 +16,7 @@ ghost use Rattle.store_halves.specs.Half.{held, Ends};
 use store_load::Scanned;
 
 // The saved entries of a half: bad, or where they end.
-#[derive(Drop)]
+#[derive(Clone, Copy)]
 pub enum Ending {
     Bad,
     At(usize),

@@ -1,3 +1,5 @@
+#![tactic(auto)]
+
 // Saved bytes judged entry by entry, and each slot of a share given its entry. Inner: no entry point.
 ghost use Rattle.std.specs.Prelude.{◌≡◌, List, [], ◌∷◌, ◌++◌, ℕ, ◌+◌, ◌*◌, ◌≤◌, ◌<◌, length, get_or, take, drop};
 ghost use Rattle.common.specs.Outcome.{found};
@@ -9,14 +11,14 @@ ghost use Rattle.store_load.specs.Loading.{Frames, Takes, Scans, Loading, Given}
 use row_spec::Varint;
 
 // An entry of saved bytes: bad, or where its bytes start and how many there are.
-#[derive(Drop)]
+#[derive(Clone, Copy)]
 pub enum Took {
     Bad,
     Entry(usize, usize),
 }
 
 // The entries of saved bytes: bad, or where they end and how long their forms are together.
-#[derive(Drop)]
+#[derive(Clone, Copy)]
 pub enum Scanned {
     Bad,
     Good(usize, usize),

@@ -1,3 +1,5 @@
+#![tactic(auto)]
+
 // The forms of a share moved together at the start of its buffer. Inner: no entry point.
 ghost use Rattle.std.specs.Prelude.{◌≡◌, ◌+◌, ◌*◌, ◌≤◌, ◌<◌, length};
 ghost use Rattle.bitmap_spec.proofs.Tally.{tally};

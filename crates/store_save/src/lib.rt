@@ -1,3 +1,5 @@
+#![tactic(auto)]
+
 // The entries of a sound share as saved bytes. Inner: no entry point.
 ghost use Rattle.std.specs.Prelude.{◌≡◌, ◌++◌, ℕ, ◌+◌, ◌*◌, ◌≤◌, ◌<◌, length};
 ghost use Rattle.bitmap_spec.specs.Output.{written};

@@ -1,3 +1,5 @@
+#![tactic(auto)]
+
 // The calls on one share of a store: n slots with their directory and their part of the buffer. An owner's slots and half are one. Inner:
 // no entry point.
 ghost use Rattle.std.specs.Prelude.{◌≡◌, ◌+◌, ◌*◌, ◌≤◌, ◌<◌, length, set};

@@ -1,3 +1,5 @@
+#![tactic(auto)]
+
 // The numbers of a share's directory, and whether its own bytes are forms lying apart. Inner: no entry point.
 ghost use Rattle.std.specs.Prelude.{◌≡◌, ◌+◌, ◌*◌, ◌≤◌, ◌<◌, length};
 ghost use Rattle.common.specs.Lists.{from, every};

@@ -10,10 +10,13 @@
 //
 // Of fetch and save the whole output is printed, where ee was left as it was. The file stdout was made by a script from 02
 // and a table of the bitmaps in these lines.
-ghost use Rattle.std.specs.Prelude.{◌+◌, ◌≤◌, ◌<◌, length};
+#![tactic(auto)]
+
+ghost use Rattle.std.specs.Prelude.{◌+◌, ◌≤◌, ◌<◌, length, IfOk};
 
 use bitmap_spec::Written;
-use libc::STDIN_FILENO;
+use std::io;
+use std::io::Write;
 use store_spec::Stored;
 
 // Word k as a number.
@@ -25,53 +28,60 @@ fn wide(n: u32) -> u64 {
     n as u64
 }
 
-fn print_stored(r: Stored) {
+fn print_stored<W: Write>(to: &mut W, r: Stored) -> io::Result<()> {
     match r {
-        Stored::Refused(n) => vector_text::print_after(b"refused ", wide(n)),
-        Stored::Done => vector_text::print(b"done"),
+        Stored::Refused(n) => vector_text::print_after(to, b"refused ", wide(n))?,
+        Stored::Done => vector_text::print(to, b"done")?,
     }
-    vector_text::print(b"\n");
+    vector_text::print(to, b"\n")
 }
 
 // The answer, and the whole output.
-fn print_written(r: Written, out: &[u8]) {
+fn print_written<W: Write>(to: &mut W, r: Written, out: &[u8]) -> io::Result<()> {
     match r {
-        Written::Refused(n) => vector_text::print_after(b"refused ", wide(n)),
-        Written::Length(n) => vector_text::print_after(b"length ", n as u64),
+        Written::Refused(n) => vector_text::print_after(to, b"refused ", wide(n))?,
+        Written::Length(n) => vector_text::print_after(to, b"length ", n as u64)?,
     }
-    vector_text::print(b": ");
-    vector_text::print_bytes(out);
-    vector_text::print(b"\n");
+    vector_text::print(to, b": ")?;
+    vector_text::print_bytes(to, out)?;
+    vector_text::print(to, b"\n")
 }
 
-fn put(line: &[u8], dir: &mut [u32], buf: &mut [u8]) {
+fn put<W: Write>(to: &mut W, line: &[u8], dir: &mut [u32], buf: &mut [u8]) -> io::Result<()> {
     let mut bitmap = [0u8; 512];
     let n = vector_text::decode(vector_text::word(line, 3), &mut bitmap);
-    print_stored(store::put(dir, buf, number(line, 1), number(line, 2), &bitmap[..n]));
+    let r = store::put(dir, buf, number(line, 1), number(line, 2), &bitmap[..n]);
+    print_stored(to, r)
 }
 
 // Fetch or save into an output that is there.
-fn give(line: &[u8], dir: &[u32], buf: &[u8], out: &mut [u8]) {
+fn give<W: Write>(
+    to: &mut W,
+    line: &[u8],
+    dir: &[u32],
+    buf: &[u8],
+    out: &mut [u8],
+) -> io::Result<()> {
     if vector_text::starts(line, b'f') {
         let r = store::fetch(dir, buf, number(line, 2), number(line, 3), out);
-        print_written(r, out);
-        return;
+        return print_written(to, r, out);
     }
     let r = store::save(dir, buf, out);
-    print_written(r, out);
+    print_written(to, r, out)
 }
 
 // Fetch or save, into an output of up to 1,024 bytes.
-fn give_out(line: &[u8], dir: &[u32], buf: &[u8]) {
+fn give_out<W: Write>(to: &mut W, line: &[u8], dir: &[u32], buf: &[u8]) -> io::Result<()> {
     let room = number(line, 1) as usize % 1025;
     let mut out = [238u8; 1024];
-    give(line, dir, buf, &mut out[..room]);
+    give(to, line, dir, buf, &mut out[..room])
 }
 
-fn load(line: &[u8], dir: &mut [u32], buf: &mut [u8]) {
+fn load<W: Write>(to: &mut W, line: &[u8], dir: &mut [u32], buf: &mut [u8]) -> io::Result<()> {
     let mut saved = [0u8; 1024];
     let n = vector_text::decode(vector_text::word(line, 1), &mut saved);
-    print_stored(store::load(dir, buf, &saved[..n]));
+    let r = store::load(dir, buf, &saved[..n]);
+    print_stored(to, r)
 }
 
 // A number of the directory, set.
@@ -91,95 +101,100 @@ fn set_bytes(line: &[u8], buf: &mut [u8]) {
 }
 
 // The two numbers of a slot.
-fn view(line: &[u8], dir: &[u32]) {
+fn view<W: Write>(to: &mut W, line: &[u8], dir: &[u32]) -> io::Result<()> {
     let i = number(line, 1) as usize;
     if i < 64 {
         if 2 * i + 1 < dir.len() {
-            vector_text::print_after(b"start ", wide(dir[2 * i]));
-            vector_text::print_after(b" length ", wide(dir[2 * i + 1]));
-            vector_text::print(b"\n");
+            vector_text::print_after(to, b"start ", wide(dir[2 * i]))?;
+            vector_text::print_after(to, b" length ", wide(dir[2 * i + 1]))?;
+            vector_text::print(to, b"\n")?;
         }
     }
+    Ok(())
 }
 
 // A byte of the buffer.
-fn get(line: &[u8], buf: &[u8]) {
+fn get<W: Write>(to: &mut W, line: &[u8], buf: &[u8]) -> io::Result<()> {
     let at = number(line, 1) as usize;
     if at < buf.len() {
-        vector_text::print(b"byte ");
-        vector_text::print_bytes(&buf[at..at + 1]);
-        vector_text::print(b"\n");
+        vector_text::print(to, b"byte ")?;
+        vector_text::print_bytes(to, &buf[at..at + 1])?;
+        vector_text::print(to, b"\n")?;
     }
+    Ok(())
 }
 
 // A step that changes the store.
-fn change(line: &[u8], dir: &mut [u32], buf: &mut [u8]) {
+fn change<W: Write>(to: &mut W, line: &[u8], dir: &mut [u32], buf: &mut [u8]) -> io::Result<()> {
     if vector_text::starts(line, b'p') {
-        put(line, dir, buf);
-        return;
+        return put(to, line, dir, buf);
     }
     if vector_text::starts(line, b'l') {
-        load(line, dir, buf);
-        return;
+        return load(to, line, dir, buf);
     }
     if vector_text::starts(line, b'd') {
-        print_stored(store::drop_slot(dir, buf, number(line, 1), number(line, 2)));
-        return;
+        let r = store::drop_slot(dir, buf, number(line, 1), number(line, 2));
+        return print_stored(to, r);
     }
     if vector_text::starts(line, b'a') {
         set_number(line, dir);
-        return;
+        return Ok(());
     }
     if vector_text::starts(line, b'b') {
         set_bytes(line, buf);
     }
+    Ok(())
 }
 
 // A step that leaves the store as it is; a line that starts with # is printed.
-fn look(line: &[u8], dir: &[u32], buf: &[u8]) {
-    if vector_text::comment(line) {
-        return;
+fn look<W: Write>(to: &mut W, line: &[u8], dir: &[u32], buf: &[u8]) -> io::Result<()> {
+    if vector_text::comment(to, line)? {
+        return Ok(());
     }
     if vector_text::starts(line, b'f') {
-        give_out(line, dir, buf);
-        return;
+        return give_out(to, line, dir, buf);
     }
     if vector_text::starts(line, b's') {
-        give_out(line, dir, buf);
-        return;
+        return give_out(to, line, dir, buf);
     }
     if vector_text::starts(line, b'v') {
-        view(line, dir);
-        return;
+        return view(to, line, dir);
     }
     if vector_text::starts(line, b'g') {
-        get(line, buf);
+        return get(to, line, buf);
     }
+    Ok(())
 }
 
 // The steps from `from` on, up to the next store; says where that starts.
-fn show_steps(text: &[u8], from: usize, dir: &mut [u32], buf: &mut [u8]) -> usize
+fn show_steps<W: Write>(
+    to: &mut W,
+    text: &[u8],
+    from: usize,
+    dir: &mut [u32],
+    buf: &mut [u8],
+) -> io::Result<usize>
     requires { from ≤ length text.now + 1 }
-    ensures { (from ≤ result) × (result ≤ length text.now + 1) }
+    ensures { IfOk result (λ r. (from ≤ r) × (r ≤ length text.now + 1)) }
 {
     let mut at = from;
     while at < text.len() {
         let end = vector_text::find(text, at, b'\n');
         let line = &text[at..end];
         if vector_text::starts(line, b'n') {
-            return at;
+            return Ok(at);
         }
-        change(line, dir, buf);
-        look(line, dir, buf);
+        change(to, line, dir, buf)?;
+        look(to, line, dir, buf)?;
         at = end + 1;
     }
-    at
+    Ok(at)
 }
 
 // The store whose line `new` starts at `at`, and its steps.
-fn show_store(text: &[u8], at: usize) -> usize
+fn show_store<W: Write>(to: &mut W, text: &[u8], at: usize) -> io::Result<usize>
     requires { at ≤ length text.now }
-    ensures { (at < result) × (result ≤ length text.now + 1) }
+    ensures { IfOk result (λ r. (at < r) × (r ≤ length text.now + 1)) }
 {
     let end = vector_text::find(text, at, b'\n');
     let line = &text[at..end];
@@ -187,18 +202,21 @@ fn show_store(text: &[u8], at: usize) -> usize
     let numbers = number(line, 2) as usize % 131;
     let mut dir = [0u32; 130];
     let mut buf = [238u8; 1024];
-    show_steps(text, end + 1, &mut dir[..numbers], &mut buf[..bytes])
+    show_steps(to, text, end + 1, &mut dir[..numbers], &mut buf[..bytes])
 }
 
-fn show_stores(text: &[u8]) {
+fn show_stores<W: Write>(to: &mut W, text: &[u8]) -> io::Result<()> {
     let mut at: usize = 0;
     while at < text.len() {
-        at = show_store(text, at);
+        at = show_store(to, text, at)?;
     }
+    Ok(())
 }
 
-fn main() {
-    let mut text = io::large_buffer();
-    let n = io::read_full(STDIN_FILENO, &mut text);
-    show_stores(&text[..n]);
+fn main(rt: HostRuntime) -> io::Result<()> {
+    let mut text = [0u8; 65536];
+    let n = vector_text::read_full(&mut rt.reader(), &mut text)?;
+    let mut to = io::writer(&rt);
+    show_stores(&mut to, &text[..n])?;
+    to.flush()
 }

@@ -1,3 +1,5 @@
+#![tactic(auto)]
+
 // Stored values as the numbers of a page: three for each field, one field after the other. Inner: no entry point.
 ghost use Rattle.std.specs.Prelude.{◌≡◌, true, false, ℕ, min, ◌≤◌, ◌<◌, ◌+◌, ◌-◌, ◌*◌, ◌^◌, leb, eqb, length};
 ghost use Rattle.common.specs.Outcome.{pick, both};
@@ -11,7 +13,7 @@ use numbers::{bit_at, has, varint, wide, word};
 use row_spec::{Field, Storage, Value, Varint};
 
 // The three numbers of a field, and the place of the byte after it.
-#[derive(Drop)]
+#[derive(Clone, Copy)]
 pub struct Cell {
     pub kind: u64,
     pub value: u64,
@@ -21,7 +23,7 @@ pub struct Cell {
 
 // How a run of fields lies: in a bucket or a row; all stored as the first or each as its own; and whether there are null bits, at
 // which byte, and which of them is the first field's.
-#[derive(Drop)]
+#[derive(Clone, Copy)]
 pub struct Run {
     pub big: bool,
     pub same: bool,

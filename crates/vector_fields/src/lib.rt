@@ -1,51 +1,55 @@
 // A field's answer, or a page's, on a line of vectors.
+#![tactic(auto)]
+
 ghost use Rattle.std.specs.Prelude.{◌≤◌};
 
 use row_spec::{Field, FieldAnswer, PageAnswer};
+use std::io;
+use std::io::Write;
 
 fn wide(n: u32) -> u64 {
     n as u64
 }
 
 // Prints a refusal's number.
-pub fn print_refused(n: u32) {
-    vector_text::print_after(b": refused ", wide(n));
+pub fn print_refused<W: Write>(to: &mut W, n: u32) -> io::Result<()> {
+    vector_text::print_after(to, b": refused ", wide(n))
 }
 
 // Prints a field's kind, whether its whole number is the one wanted, its bits, nanoseconds, start and length.
-fn print_field(f: Field, whole: &[u8]) {
+fn print_field<W: Write>(to: &mut W, f: Field, whole: &[u8]) -> io::Result<()> {
     let v = values::show(f);
     let z = v.whole;
-    vector_text::print_after(b": kind ", v.kind as u64);
+    vector_text::print_after(to, b": kind ", v.kind as u64)?;
     if z == numbers::signed(vector_text::signed(whole), 9223372036854775808) {
-        vector_text::print(b" as wanted");
+        vector_text::print(to, b" as wanted")?;
     } else {
-        vector_text::print(b" NOT AS WANTED");
+        vector_text::print(to, b" NOT AS WANTED")?;
     }
-    vector_text::print_after(b" ", v.bits);
-    vector_text::print_after(b" ", v.nanos as u64);
-    vector_text::print_after(b" ", v.start as u64);
-    vector_text::print_after(b" ", v.length as u64);
+    vector_text::print_after(to, b" ", v.bits)?;
+    vector_text::print_after(to, b" ", v.nanos as u64)?;
+    vector_text::print_after(to, b" ", v.start as u64)?;
+    vector_text::print_after(to, b" ", v.length as u64)
 }
 
 // Prints an answer, and says whether it is a refusal.
-pub fn print_answer(answer: FieldAnswer, whole: &[u8]) -> bool {
+pub fn print_answer<W: Write>(to: &mut W, answer: FieldAnswer, whole: &[u8]) -> io::Result<bool> {
     match answer {
         FieldAnswer::Refused(n) => {
-            print_refused(n);
-            true
+            print_refused(to, n)?;
+            Ok(true)
         }
         FieldAnswer::Field(f) => {
-            print_field(f, whole);
-            false
+            print_field(to, f, whole)?;
+            Ok(false)
         }
     }
 }
 
 // Prints a part's length, and ends the line.
-pub fn print_part(part: &[u8]) {
-    vector_text::print_after(b" part ", part.len() as u64);
-    vector_text::print(b"\n");
+pub fn print_part<W: Write>(to: &mut W, part: &[u8]) -> io::Result<()> {
+    vector_text::print_after(to, b" part ", part.len() as u64)?;
+    vector_text::print(to, b"\n")
 }
 
 // How many numbers of a list of 64 are lent.
@@ -59,24 +63,22 @@ pub fn lent(room: u32) -> usize
 }
 
 // Prints the numbers of a list, and ends the line.
-fn print_list(list: &[u64]) {
-    let mut i: usize = 0;
-    while i < list.len() {
-        vector_text::print_after(b" ", list[i]);
-        i += 1;
+fn print_list<W: Write>(to: &mut W, list: &[u64]) -> io::Result<()> {
+    for n in list {
+        vector_text::print_after(to, b" ", *n)?;
     }
-    vector_text::print(b"\n");
+    vector_text::print(to, b"\n")
 }
 
 // Prints a page's answer, and then every number of the list lent.
-pub fn print_page(answer: PageAnswer, list: &[u64]) {
+pub fn print_page<W: Write>(to: &mut W, answer: PageAnswer, list: &[u64]) -> io::Result<()> {
     match answer {
-        PageAnswer::Refused(n) => print_refused(n),
+        PageAnswer::Refused(n) => print_refused(to, n)?,
         PageAnswer::Page { given, rows } => {
-            vector_text::print_after(b": given ", wide(given));
-            vector_text::print_after(b" of ", wide(rows));
+            vector_text::print_after(to, b": given ", wide(given))?;
+            vector_text::print_after(to, b" of ", wide(rows))?;
         }
     }
-    vector_text::print(b", list");
-    print_list(list);
+    vector_text::print(to, b", list")?;
+    print_list(to, list)
 }

@@ -1,7 +1,25 @@
 // Lines of vectors: their words, hexadecimal digits and decimal numbers, read and printed.
-ghost use Rattle.std.specs.Prelude.{◌≤◌, ◌<◌, length};
+#![tactic(auto)]
 
-use libc::STDOUT_FILENO;
+ghost use Rattle.std.specs.Prelude.{◌≤◌, ◌<◌, length, IfOk};
+
+use std::io;
+use std::io::{Read, Write};
+
+// Reads until buf is full or the input ends, and says how many bytes it put at the start of buf.
+pub fn read_full<R: Read>(input: &mut R, buf: &mut [u8]) -> io::Result<usize>
+    ensures { IfOk result (λ n. n ≤ length buf.new) }
+{
+    let mut done: usize = 0;
+    while done < buf.len() {
+        let n = input.read(&mut buf[done..])?;
+        if n == 0 {
+            break;
+        }
+        done += n;
+    }
+    Ok(done)
+}
 
 // Where the first c at or after `from` lies, or the text's end.
 pub fn find(text: &[u8], from: usize, c: u8) -> usize
@@ -70,16 +88,16 @@ pub fn starts(text: &[u8], c: u8) -> bool {
 }
 
 // Whether the line is empty or a comment, which starts with # and is printed.
-pub fn comment(line: &[u8]) -> bool {
+pub fn comment<W: Write>(to: &mut W, line: &[u8]) -> io::Result<bool> {
     if line.len() == 0 {
-        return true;
+        return Ok(true);
     }
     if line[0] == b'#' {
-        print(line);
-        print(b"\n");
-        return true;
+        print(to, line)?;
+        print(to, b"\n")?;
+        return Ok(true);
     }
-    false
+    Ok(false)
 }
 
 // The value of a hexadecimal digit.
@@ -145,20 +163,19 @@ pub fn signed(digits: &[u8]) -> u64 {
 }
 
 // Prints the bytes as pairs of hexadecimal digits.
-pub fn print_bytes(s: &[u8]) {
-    let mut i: usize = 0;
-    while i < s.len() {
-        io::print_hex(STDOUT_FILENO, wide(s[i]), 2);
-        i += 1;
+pub fn print_bytes<W: Write>(to: &mut W, s: &[u8]) -> io::Result<()> {
+    for b in s {
+        write!(to, "{b:02x}")?;
     }
+    Ok(())
 }
 
-pub fn print(text: &[u8]) {
-    io::write_all(STDOUT_FILENO, text);
+pub fn print<W: Write>(to: &mut W, text: &[u8]) -> io::Result<()> {
+    to.write_all(text)
 }
 
 // Prints a text and a number.
-pub fn print_after(text: &[u8], n: u64) {
-    io::write_all(STDOUT_FILENO, text);
-    io::print_decimal(STDOUT_FILENO, n);
+pub fn print_after<W: Write>(to: &mut W, text: &[u8], n: u64) -> io::Result<()> {
+    to.write_all(text)?;
+    write!(to, "{n}")
 }

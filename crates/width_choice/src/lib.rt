@@ -1,3 +1,5 @@
+#![tactic(auto)]
+
 // Widths, costs and the choice of the width b1 of a chunk. Inner: no entry point.
 ghost use Rattle.std.specs.Prelude.{◌≡◌, map, ℕ, ◌+◌, ◌-◌, ◌*◌, ◌≤◌, ◌<◌, ltb, length, get_or};
 ghost use Rattle.common.specs.Bytes.{ceil8};

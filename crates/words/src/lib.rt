@@ -1,3 +1,5 @@
+#![tactic(auto)]
+
 // Words: eight bytes as one number, for every format. Inner: no entry point.
 ghost use Rattle.std.specs.Prelude.{◌≡◌, ℕ, ◌+◌, ◌≤◌, ◌<◌, length, get_or};
 ghost use Rattle.common.specs.Bytes.{little_at};
