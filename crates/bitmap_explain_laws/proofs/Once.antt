@@ -12,7 +12,7 @@ use lib.ListN.{length}
 use lib.Dec.{leb, ltb}
 use Rattle.common.specs.Bytes.{little_at}
 use Rattle.common.proofs.Lists.{every-hit}
-use Rattle.common.specs.Outcome.{found, then, pick}
+use Rattle.common.specs.Outcome.{found, pick}
 use Rattle.bitmap_spec.specs.Judge.{head_at, descriptor, Chunk, chunk, last_chunk, chunks, judge}
 use Rattle.bitmap_laws.proofs.Accept.{then_found}
 use Rattle.bitmap_explain_spec.specs.declared.Fault.{Fault}

@@ -1,19 +1,18 @@
 -- What is accepted is a set: the members are strictly rising and below 2,097,152.
 -- Assumes nothing.
-use mathlib.Core.Path.{◌≡◌, refl, sym, ap, ap₂, ◌∙◌}
-use mathlib.Core.Logic.{◌⊎◌, inl, inr, ⊎_elim}
+use mathlib.Core.Path.{◌≡◌, refl, sym}
 use mathlib.Core.Bool.{Bool, true, false}
 use mathlib.Core.List.{List, [], ◌∷◌, ◌++◌, map}
-use Prim.Native.Nat.{ℕ, zero, suc, ◌+◌, ◌-◌, ◌*◌, ◌/◌, ◌%◌, ◌≤◌, ◌<◌, max}
-use native.Mathlib.Nat.{suc-add, add-suc, add-zero, zero-add, add_assoc}
+use Prim.Native.Nat.{ℕ, zero, suc, ◌+◌, ◌*◌, ◌/◌, ◌%◌, ◌≤◌}
+use native.Mathlib.Nat.{add-zero, zero-add}
 use native.Mathlib.Omega.{arith}
-use borrow.Author.Tests.{le-leb, lt-ltb, leb-true}
+use borrow.Author.Tests.{leb-true}
 use lib.Dec.{leb, ltb, eqb}
 use lib.ListN.{length, take, drop, length-append}
 use Rattle.common.proofs.Lists.{both_left, both_right}
 use Rattle.common.specs.Bytes.{little_at}
-use Rattle.common.specs.Lists.{keep, from, mem, rising}
-use Rattle.common.specs.Outcome.{Outcome, refused, found, then, need, pick, both}
+use Rattle.common.specs.Lists.{rising}
+use Rattle.common.specs.Outcome.{Outcome, refused, found, then, pick}
 use Rattle.bitmap_spec.proofs.Reading.{need-found, chunk-sound}
 use Rattle.bitmap_spec.specs.Bits.{bit}
 use Rattle.bitmap_spec.specs.Judge.{Chunk, chunk, last_chunk, chunks, dense, container, container_ok, containers_ok, members_from, size_of, judge, judge_body}

@@ -1,24 +1,24 @@
 -- A chunk that is laid out as the writer lays it out is read back.
 -- Assumes nothing.
-use mathlib.Core.Path.{◌≡◌, refl, sym, ap, ap₂, ◌∙◌}
-use mathlib.Core.Bool.{Bool, true, false}
-use mathlib.Core.List.{List, [], ◌∷◌, ◌++◌, append_assoc}
-use Prim.Native.Nat.{ℕ, zero, suc, ◌+◌, ◌-◌, ◌*◌, ◌/◌, ◌%◌, ◌^◌, ◌≤◌, ◌<◌}
-use native.Mathlib.Nat.{zero-add, add-zero, add_assoc}
+use mathlib.Core.Path.{◌≡◌, refl, sym, ap, ◌∙◌}
+use mathlib.Core.Bool.{true}
+use mathlib.Core.List.{List, ◌∷◌, ◌++◌, append_assoc}
+use Prim.Native.Nat.{ℕ, zero, suc, ◌+◌, ◌-◌, ◌*◌, ◌^◌, ◌≤◌, ◌<◌}
+use native.Mathlib.Nat.{zero-add, add-zero}
 use native.Mathlib.Omega.{arith}
 use borrow.Author.Tests
 use borrow.Author.Tests.{le-leb, eq-eqb}
-use lib.Dec.{leb, ltb, eqb}
+use lib.Dec.{leb, eqb}
 use lib.ListN.{length, get_or, take, drop, length-append, get_or-append}
 use lib.Seq.{get_or-append-add, drop_at, take_at}
 use Rattle.common.proofs.Lists.{every-all}
 use Rattle.common.specs.Bytes.{ceil8}
 use Rattle.common.specs.Lists.{from, rising, every, table}
-use Rattle.common.specs.Outcome.{Outcome, refused, found, need, pick}
-use Rattle.bitmap_spec.specs.Bits.{bit, bits, value, spare_zero, packed, bytes_of, value_bit, pack_values}
-use Rattle.bitmap_spec.specs.Judge.{Chunk, chunk_with, chunk_end, part, descriptor}
+use Rattle.common.specs.Outcome.{found, need, pick}
+use Rattle.bitmap_spec.specs.Bits.{bit, value, spare_zero, packed, bytes_of, value_bit, pack_values}
+use Rattle.bitmap_spec.specs.Judge.{chunk_with, chunk_end, part, descriptor}
 use Rattle.bitmap_spec.specs.declared.ChunkHead.{ChunkHead}
-use Rattle.bitmap_laws.proofs.Pack.{value-packed, bits-packed, packed-same, bit-after, bit-before, bit-bytes_of, length-bytes_of, value_bit-lt, le-ceil8}
+use Rattle.bitmap_laws.proofs.Pack.{value-packed, bits-packed, bit-after, bit-before, bit-bytes_of, length-bytes_of, value_bit-lt}
 
 pub table_same : (f g : ℕ → ℕ) (k n : ℕ) → ((i : ℕ) → i < n → f (k + i) ≡ g (k + i)) → table f k n ≡ table g k n
 unfolding table

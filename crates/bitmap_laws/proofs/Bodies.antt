@@ -1,21 +1,20 @@
 -- Containers in the written form are read back.
 -- Assumes nothing.
-use mathlib.Core.Path.{◌≡◌, refl, sym, ap, ap₂, ◌∙◌}
-use mathlib.Core.Logic.{◌⊎◌, inl, inr, ⊎_elim}
-use mathlib.Core.Bool.{Bool, true, false}
-use mathlib.Core.List.{List, [], ◌∷◌, ◌++◌, map, append_assoc, append-nil}
-use Prim.Native.Nat.{ℕ, zero, suc, ◌+◌, ◌-◌, ◌*◌, ◌/◌, ◌%◌, ◌^◌, ◌≤◌, ◌<◌, min, max}
-use native.Mathlib.Nat.{suc-add, add-suc, add-zero, zero-add, add_assoc}
+use mathlib.Core.Path.{◌≡◌, refl, sym, ap}
+use mathlib.Core.Logic.{⊎_elim}
+use mathlib.Core.Bool.{true}
+use mathlib.Core.List.{List, [], ◌∷◌, ◌++◌, map, append_assoc}
+use Prim.Native.Nat.{ℕ, suc, ◌+◌, ◌*◌, ◌≤◌, ◌<◌, min}
 use native.Mathlib.Omega.{arith}
 use borrow.Author.Tests.{le-leb, lt-ltb, le-ltb}
-use lib.Dec.{leb, ltb, eqb}
+use lib.Dec.{ltb}
 use lib.ListN.{length, length-append}
 use Rattle.common.specs.Lists.{mem, rising, sum}
-use Rattle.common.specs.Outcome.{pick, both, one}
+use Rattle.common.specs.Outcome.{pick, one}
 use Rattle.bitmap_spec.proofs.Window.{below_or}
 use Rattle.bitmap_spec.specs.Bits.{bytes_of}
 use Rattle.bitmap_spec.specs.Form.{descriptor_of, write_container, write_containers}
-use Rattle.bitmap_spec.specs.Judge.{size_of, container, container_ok, containers_ok, members_from}
+use Rattle.bitmap_spec.specs.Judge.{size_of, container_ok, containers_ok, members_from}
 use Rattle.bitmap_laws.proofs.Containers.{container-back}
 use Rattle.bitmap_laws.proofs.Cuts.{AllUp, joined}
 use Rattle.bitmap_laws.proofs.Pack.{length-bytes_of}
@@ -60,18 +59,38 @@ ok-back c pre post up =
     rw (container-back c up pre post)
     (⊎_elim (λ h. rw (lt-ltb (descriptor_of c) 32 (desc-low c h)) up) (λ h. rw (le-ltb (descriptor_of c) 32 (desc-high c h)) (le-leb _ _ h)) (below_or (length c) 32))
 
+-- the first of several containers, and what follows it
+unfold-containers : (c : List ℕ) (cs : List (List ℕ)) (post : List ℕ) → write_containers (c ∷ cs) ++ post ≡ write_container c ++ (write_containers cs ++ post)
+unfolding write_containers
+unfold-containers c cs post = append_assoc (write_container c) (write_containers cs) post
+
+one-ok : (c pre rest ds : List ℕ) → rising 256 0 c ≡ true → containers_ok ((pre ++ write_container c) ++ rest) (length (pre ++ write_container c)) ds ≡ true → containers_ok (pre ++ (write_container c ++ rest)) (length pre) (descriptor_of c ∷ ds) ≡ true
+unfolding containers_ok
+one-ok c pre rest ds up two =
+    rw (ok-back c pre rest up, size_is c) (rw (append_assoc pre (write_container c) rest, length-append pre (write_container c)) at two)
+
+none-ok : (s : List ℕ) (at : ℕ) → containers_ok s at [] ≡ true
+unfolding containers_ok
+none-ok s at = refl
+
 pub all-ok : (pre post : List ℕ) (cs : List (List ℕ)) → AllUp cs → containers_ok (pre ++ (write_containers cs ++ post)) (length pre) (map descriptor_of cs) ≡ true
-unfolding containers_ok write_containers AllUp
-all-ok pre post [] a = refl
+unfolding AllUp
+all-ok pre post [] a = none-ok (pre ++ (write_containers [] ++ post)) (length pre)
 all-ok pre post (c ∷ cs) a =
-    let two = all-ok (pre ++ write_container c) post cs a.1 in
-    rw (append_assoc (write_container c) (write_containers cs) post, ok-back c pre (write_containers cs ++ post) a.0, size_is c)
-    (rw (append_assoc pre (write_container c) (write_containers cs ++ post), length-append pre (write_container c)) at two)
+    rw (unfold-containers c cs post) (one-ok c pre (write_containers cs ++ post) (map descriptor_of cs) a.0 (all-ok (pre ++ write_container c) post cs a.1))
+
+one-back : (c pre rest ds : List ℕ) (k : ℕ) (l : List ℕ) → rising 256 0 c ≡ true → members_from ((pre ++ write_container c) ++ rest) (suc k) (length (pre ++ write_container c)) ds ≡ l → members_from (pre ++ (write_container c ++ rest)) k (length pre) (descriptor_of c ∷ ds) ≡ map (λ j. k * 256 + j) c ++ l
+unfolding members_from
+one-back c pre rest ds k l up two =
+    rw (container-back c up pre rest, size_is c)
+    (ap (λ (l' : List ℕ). map (λ j. k * 256 + j) c ++ l') (rw (append_assoc pre (write_container c) rest, length-append pre (write_container c)) at two))
+
+none-back : (s : List ℕ) (k at : ℕ) → members_from s k at [] ≡ []
+unfolding members_from
+none-back s k at = refl
 
 pub members-back : (pre post : List ℕ) (k : ℕ) (cs : List (List ℕ)) → AllUp cs → members_from (pre ++ (write_containers cs ++ post)) k (length pre) (map descriptor_of cs) ≡ joined k cs
-unfolding members_from joined write_containers AllUp
-members-back pre post k [] a = refl
+unfolding joined AllUp
+members-back pre post k [] a = none-back (pre ++ (write_containers [] ++ post)) k (length pre)
 members-back pre post k (c ∷ cs) a =
-    let two = members-back (pre ++ write_container c) post (suc k) cs a.1 in
-    rw (append_assoc (write_container c) (write_containers cs) post, container-back c a.0 pre (write_containers cs ++ post), size_is c)
-    (ap (λ (l : List ℕ). map (λ j. k * 256 + j) c ++ l) (rw (append_assoc pre (write_container c) (write_containers cs ++ post), length-append pre (write_container c)) at two))
+    rw (unfold-containers c cs post) (one-back c pre (write_containers cs ++ post) (map descriptor_of cs) k (joined (suc k) cs) a.0 (members-back (pre ++ write_container c) post (suc k) cs a.1))

@@ -1,28 +1,26 @@
 -- A chunk that is written is read back: its descriptors, and where it ends.
 -- Assumes nothing.
-use mathlib.Core.Path.{◌≡◌, refl, sym, ap, ap₂, ◌∙◌}
-use mathlib.Core.Logic.{◌⊎◌, ⊎_elim}
+use mathlib.Core.Path.{◌≡◌, refl, ap, ◌∙◌}
 use mathlib.Core.Bool.{Bool, true, false}
-use mathlib.Core.List.{List, [], ◌∷◌, ◌++◌, append_assoc, map}
-use Prim.Native.Nat.{ℕ, zero, suc, ◌+◌, ◌-◌, ◌*◌, ◌/◌, ◌%◌, ◌^◌, ◌≤◌, ◌<◌, max}
-use native.Mathlib.Nat.{zero-add, add-zero, add_comm, zero-mul, mod-lt, mod-eq_of_lt, not-suc-le-zero, le_of_suc-le-suc}
+use mathlib.Core.List.{List, [], ◌∷◌, ◌++◌, append_assoc}
+use Prim.Native.Nat.{ℕ, zero, suc, ◌+◌, ◌*◌, ◌/◌, ◌%◌, ◌^◌, ◌≤◌, ◌<◌}
+use native.Mathlib.Nat.{zero-add, add_comm, zero-mul, mod-lt, mod-eq_of_lt, not-suc-le-zero, le_of_suc-le-suc}
 use native.Mathlib.Omega.{arith}
-use borrow.Author.Tests.{le-leb, eq-eqb, ne_eqb, ltb-true, ltb-false, lt-ltb, le-ltb}
-use lib.Dec.{leb, ltb, eqb}
-use lib.ListN.{length, get_or, take, drop, length-append}
-use lib.Seq.{get_or-append-add, get_or-append_seam, ext_get_or}
-use lib.Pow.{pow_pos, shr_lt, split, pow_mono}
-use Rattle.common.proofs.Lists.{length-table, rising-range}
+use borrow.Author.Tests.{le-leb, ne_eqb, ltb-true, ltb-false}
+use lib.Dec.{ltb}
+use lib.ListN.{length, get_or, length-append}
+use lib.Seq.{get_or-append-add, get_or-append_seam}
+use lib.Pow.{pow_pos, shr_lt, split}
+use Rattle.common.proofs.Lists.{rising-range}
 use Rattle.common.specs.Bytes.{ceil8}
-use Rattle.common.specs.Lists.{from, keep, rising, every, table}
-use Rattle.common.specs.Outcome.{Outcome, refused, found, need, pick, both}
+use Rattle.common.specs.Lists.{from, keep, rising, table}
+use Rattle.common.specs.Outcome.{found, need, pick}
 use Rattle.bitmap_spec.specs.Bits.{pack_values}
-use Rattle.bitmap_spec.specs.Form.{width, largest, chunk_at}
-use Rattle.bitmap_spec.specs.Judge.{Chunk, chunk, chunk_with, widths_ok, head_at, head_with}
-use Rattle.bitmap_laws.proofs.Back.{laid, with-back, part_of, length-pack, table_same}
+use Rattle.bitmap_spec.specs.Form.{width, chunk_at}
+use Rattle.bitmap_spec.specs.Judge.{chunk, chunk_with, widths_ok, head_at, head_with}
+use Rattle.bitmap_laws.proofs.Back.{laid, with-back, part_of, table_same}
 use Rattle.bitmap_laws.proofs.Except.{part-of-kept, narrow}
 use Rattle.bitmap_laws.proofs.Members.{rising-keep}
-use Rattle.bitmap_laws.proofs.Pack.{get_or-table}
 
 keep-holds : (F : ℕ → Bool) (k n j : ℕ) → j < length (keep F (from k n)) → F (get_or (keep F (from k n)) j 0) ≡ true
 unfolding keep from

@@ -1,13 +1,13 @@
 -- A container that is written is read back.
 -- Assumes nothing.
-use mathlib.Core.Path.{◌≡◌, refl, sym, ap, ap₂, ◌∙◌}
-use mathlib.Core.Logic.{◌⊎◌, ⊎_elim}
+use mathlib.Core.Path.{◌≡◌, refl, sym, ◌∙◌}
+use mathlib.Core.Logic.{⊎_elim}
 use mathlib.Core.Bool.{Bool, true, false}
-use mathlib.Core.List.{List, [], ◌∷◌, ◌++◌, append_assoc}
-use Prim.Native.Nat.{ℕ, zero, suc, ◌+◌, ◌-◌, ◌*◌, ◌≤◌, ◌<◌, min}
-use native.Mathlib.Nat.{zero-add, suc-add, add-suc, add-zero}
+use mathlib.Core.List.{List, ◌++◌}
+use Prim.Native.Nat.{ℕ, zero, suc, ◌+◌, ◌*◌, ◌≤◌, ◌<◌, min}
+use native.Mathlib.Nat.{zero-add, add-zero}
 use native.Mathlib.Omega.{arith}
-use borrow.Author.Tests.{lt-ltb, le-ltb, le-leb}
+use borrow.Author.Tests.{lt-ltb, le-ltb}
 use lib.Dec.{ltb, eqb}
 use lib.ListN.{length, take, drop}
 use lib.Seq.{drop_at, take_at}
@@ -16,7 +16,7 @@ use Rattle.common.specs.Outcome.{pick, one}
 use Rattle.bitmap_spec.proofs.Window.{below_or}
 use Rattle.bitmap_spec.specs.Bits.{bit, bytes_of}
 use Rattle.bitmap_spec.specs.Form.{descriptor_of, write_container}
-use Rattle.bitmap_spec.specs.Judge.{dense, container, container_ok}
+use Rattle.bitmap_spec.specs.Judge.{dense, container}
 use Rattle.bitmap_laws.proofs.Members.{ext, rising-keep, mem-keep, mem-high}
 use Rattle.bitmap_laws.proofs.Pack.{bit-after, bit-before, bit-bytes_of, length-bytes_of}
 

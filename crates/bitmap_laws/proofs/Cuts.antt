@@ -1,15 +1,15 @@
 -- A set cut into containers, and joined again.
 -- Assumes nothing.
 use mathlib.Core.Path.{◌≡◌, refl, sym, ap, ap₂, ◌∙◌}
-use mathlib.Core.Logic.{◌⊎◌, inl, inr, ⊎_elim}
+use mathlib.Core.Logic.{⊎_elim}
 use mathlib.Core.Bool.{Bool, true, false}
 use mathlib.Core.List.{List, [], ◌∷◌, ◌++◌, map}
-use Prim.Native.Nat.{ℕ, zero, suc, ◌+◌, ◌-◌, ◌*◌, ◌/◌, ◌≤◌, ◌<◌, max}
-use native.Mathlib.Nat.{suc-add, add-suc, add-zero, zero-add, add_assoc, zero-mul}
+use Prim.Native.Nat.{ℕ, zero, suc, ◌+◌, ◌*◌}
+use native.Mathlib.Nat.{suc-add, add-suc, add-zero, zero-add, zero-mul}
 use native.Mathlib.Omega.{arith}
 use lib.ListN.{length, length-map}
 use Rattle.common.specs.Lists.{keep, from, mem, rising}
-use Rattle.common.specs.Outcome.{pick, both}
+use Rattle.common.specs.Outcome.{pick}
 use Rattle.bitmap_spec.proofs.Window.{below_or}
 use Rattle.bitmap_spec.specs.Form.{cut, count_of}
 use Rattle.bitmap_spec.specs.Sets.{IsSet}

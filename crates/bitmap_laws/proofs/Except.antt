@@ -1,10 +1,10 @@
 -- The exceptions that a test picks out add their parts to just the values that pass it.
 -- Assumes nothing.
-use mathlib.Core.Path.{◌≡◌, refl, sym, ap, ap₂, ◌∙◌}
-use mathlib.Core.Logic.{◌⊎◌, ⊎_elim}
+use mathlib.Core.Path.{◌≡◌, refl, sym, ◌∙◌}
+use mathlib.Core.Logic.{⊎_elim}
 use mathlib.Core.Bool.{Bool, true, false}
 use mathlib.Core.List.{List, [], ◌∷◌, ◌++◌}
-use Prim.Native.Nat.{ℕ, zero, suc, ◌+◌, ◌-◌, ◌*◌, ◌/◌, ◌%◌, ◌^◌, ◌≤◌, ◌<◌}
+use Prim.Native.Nat.{ℕ, zero, suc, ◌+◌, ◌^◌, ◌≤◌, ◌<◌}
 use native.Mathlib.Nat.{zero-add, add-zero, add_assoc, eq-or-lt_of_le, add_comm}
 use native.Mathlib.Nat
 use native.Mathlib.Omega.{arith}
@@ -12,8 +12,8 @@ use borrow.Author.Tests.{eq-eqb, ne_eqb}
 use lib.Dec.{eqb}
 use lib.ListN.{length, get_or, take}
 use lib.Seq.{take-suc, take-length}
-use lib.Count.{count_leading_zeros, leading_length}
-use lib.Pow.{pow_mono, split}
+use lib.Count.{leading_length}
+use lib.Pow.{pow_mono}
 use Rattle.common.specs.Lists.{from, keep}
 use Rattle.common.specs.Outcome.{pick}
 use Rattle.bitmap_spec.specs.Form.{width}

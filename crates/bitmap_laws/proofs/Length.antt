@@ -118,11 +118,18 @@ cheapest-least vs (suc w) b h = go (ltb (cost vs (suc w)) (cost vs (cheapest vs 
     go false e ih = ⊎_elim (λ g. rw (last g) (ltb-false _ _ e)) ih (below_or w b)
 
 -- ---- a chunk
+-- three bytes, and what the chosen width costs
+chunk-cost : (ds : List ℕ)
+    → length (write_chunk ds) ≡ 3 + cost (values ds) (cheapest (values ds) (largest (map width (values ds))))
+unfolding write_chunk
+chunk-cost ds =
+    let b : ℕ = cheapest (values ds) (largest (map width (values ds))) in
+    rw (length-chunk_of (values ds) (least ds) b, size-is-cost (values ds) b) refl
+
 -- no choice of b makes it shorter
 pub chunk-least : (ds : List ℕ) (b : ℕ) → length (write_chunk ds) ≤ size_at (values ds) b
-unfolding write_chunk
 chunk-least ds b =
-    rw (length-chunk_of (values ds) (least ds) chosen, size-is-cost (values ds) chosen, size-is-cost (values ds) b)
+    rw (chunk-cost ds, size-is-cost (values ds) b)
     (⊎_elim past (λ g. omega (arith, cheapest-least (values ds) top b g)) (below_or top b))
   where
     top : ℕ
@@ -145,8 +152,8 @@ pub chunk-most : (ds : List ℕ) → length ds ≤ 256
     → length (write_chunk ds) ≤ 3 + 32 * largest (map width (map (λ d. d - least ds) ds))
 chunk-most ds h = omega (
   arith,
-  chunk-least ds top,
-  size-is-cost (values ds) top,
+  chunk-cost ds,
+  cheapest-least (values ds) top top (omega arith),
   cost-widest (values ds) top (omega arith),
   ceil-whole top,
   ceil-mono (length (values ds) * top) (256 * top) (mul-le-mul few (le_refl top)),

@@ -1,18 +1,18 @@
 -- Bits that are packed are read back, at any width and any place.
 -- Assumes nothing.
-use mathlib.Core.Path.{◌≡◌, refl, sym, ap, ap₂, ◌∙◌}
-use mathlib.Core.Logic.{◌⊎◌, inl, inr, ⊎_elim}
+use mathlib.Core.Path.{◌≡◌, refl, sym, ◌∙◌}
+use mathlib.Core.Logic.{⊎_elim}
 use mathlib.Core.Bool.{Bool, true, false}
-use mathlib.Core.List.{List, [], ◌∷◌, ◌++◌}
-use Prim.Native.Nat.{ℕ, zero, suc, ◌+◌, ◌-◌, ◌*◌, ◌/◌, ◌%◌, ◌^◌, ◌≤◌, ◌<◌}
-use native.Mathlib.Nat.{eq-or-lt_of_le, zero-add, add-zero, div-one, mod-eq_of_lt, div-add-mod', suc-add, add-suc, not-suc-le-zero, le_of_suc-le-suc, mod-lt}
+use mathlib.Core.List.{List, ◌++◌}
+use Prim.Native.Nat.{ℕ, zero, suc, ◌+◌, ◌-◌, ◌*◌, ◌/◌, ◌%◌, ◌^◌, ◌<◌}
+use native.Mathlib.Nat.{eq-or-lt_of_le, zero-add, add-zero, div-one, div-add-mod', suc-add, add-suc, not-suc-le-zero, le_of_suc-le-suc, mod-lt}
 use native.Mathlib.Numerals.{add-one}
 use native.Mathlib.Omega.{arith}
 use borrow.Author.Tests.{lt-ltb}
 use lib.Dec.{ltb}
 use lib.ListN.{length, get_or, get_or-append}
 use lib.Seq.{get_or-append-add}
-use lib.Pow.{shr-shr, shr_lt, pow_pos}
+use lib.Pow.{shr-shr, shr_lt}
 use lib.Arith.{digits_div, digits_mod, lt-one}
 use Rattle.common.proofs.Lists.{length-table}
 use Rattle.common.specs.Bytes.{ceil8}

@@ -1,14 +1,14 @@
 -- Bits packed into a number: its size, its parts, and its highest set bit.
 -- Assumes nothing.
-use mathlib.Core.Path.{◌≡◌, refl, sym, ap, ◌∙◌}
+use mathlib.Core.Path.{◌≡◌, refl, ap, ◌∙◌}
 use mathlib.Core.Logic.{⊎_elim}
 use mathlib.Core.List.{List}
 use Prim.Native.Nat.{ℕ, zero, suc, ◌+◌, ◌-◌, ◌*◌, ◌/◌, ◌%◌, ◌^◌, ◌≤◌, ◌<◌}
-use native.Mathlib.Nat.{add-zero, zero-add, add-suc, add_assoc, mul_assoc, pow-suc, lt_of_lt_of_le, zero-mul, eq-or-lt_of_le, le_of_suc-le-suc}
+use native.Mathlib.Nat.{add-zero, add-suc, add_assoc, mul_assoc, pow-suc, lt_of_lt_of_le, zero-mul, eq-or-lt_of_le, le_of_suc-le-suc}
 use native.Mathlib.Nat
 use native.Mathlib.Omega.{arith}
 use lib.ListN.{get_or}
-use lib.Pow.{pow_mono, pow_pos}
+use lib.Pow.{pow_mono}
 use Rattle.bitmap_spec.specs.Bits.{bit, packed}
 use Rattle.bitmap_spec.proofs.Tally.{bit_at}
 use Rattle.bitmap_laws.proofs.Pack.{packed-same, packed-digits}

@@ -1,17 +1,14 @@
 -- Rising lists: joined, shifted, counted; the members below a bound.
 -- Assumes nothing.
-use mathlib.Core.Path.{◌≡◌, refl, sym, ap, ap₂, ◌∙◌}
-use mathlib.Core.Logic.{◌⊎◌, inl, inr, ⊎_elim}
-use mathlib.Core.Bool.{Bool, true, false}
+use mathlib.Core.Path.{◌≡◌, refl}
+use mathlib.Core.Bool.{true}
 use mathlib.Core.List.{List, [], ◌∷◌, ◌++◌, map}
-use Prim.Native.Nat.{ℕ, zero, suc, ◌+◌, ◌-◌, ◌*◌, ◌/◌, ◌≤◌, ◌<◌, max}
-use native.Mathlib.Nat.{suc-add, add-suc, add-zero, zero-add, add_assoc}
+use Prim.Native.Nat.{ℕ, suc, ◌+◌, ◌≤◌, ◌<◌}
+use native.Mathlib.Nat.{add-suc}
 use native.Mathlib.Omega.{arith}
 use borrow.Author.Tests.{le-leb, lt-ltb}
-use lib.Dec.{leb, ltb, eqb}
 use lib.ListN.{length}
-use Rattle.common.specs.Lists.{keep, from, mem, rising}
-use Rattle.common.specs.Outcome.{pick, both}
+use Rattle.common.specs.Lists.{rising}
 use Rattle.bitmap_spec.specs.Form.{largest, count_of}
 use Rattle.bitmap_spec.specs.Sets.{IsSet}
 use Rattle.bitmap_laws.proofs.Members.{head_ok}

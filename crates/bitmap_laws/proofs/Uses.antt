@@ -1,17 +1,16 @@
 -- Plans of one operation whose order and grouping do not matter: the bitmaps used, each as often, decide the bytes.
 -- Assumes nothing.
 use mathlib.Core.Path.{◌≡◌, refl, sym, ap, ap₂, ◌∙◌}
-use mathlib.Core.Logic.{◌⊎◌, inl, inr, ⊎_elim}
-use mathlib.Core.Bool.{Bool, true, false, not}
+use mathlib.Core.Bool.{Bool, true, false}
 use mathlib.Core.List.{List, [], ◌∷◌, ◌++◌}
-use Prim.Native.Nat.{ℕ, zero, suc, ◌+◌, ◌-◌, ◌*◌, ◌/◌, ◌≤◌, ◌<◌, max}
+use Prim.Native.Nat.{ℕ, ◌+◌, ◌<◌}
 use native.Mathlib.Omega.{arith}
-use native.Mathlib.Nat.{add_assoc, add-zero}
+use native.Mathlib.Nat.{add-zero}
 use borrow.Author.Tests.{eq-eqb, eqb-true}
-use lib.Dec.{leb, eqb}
+use lib.Dec.{eqb}
 use Rattle.common.proofs.Lists.{both_left, both_right}
 use Rattle.common.specs.Lists.{mem}
-use Rattle.common.specs.Outcome.{Outcome, refused, found, both, pick, one}
+use Rattle.common.specs.Outcome.{Outcome, refused, found, pick, one}
 use Rattle.bitmap_spec.specs.Judge.{judge}
 use Rattle.bitmap_spec.specs.Plan.{Plan, call, Input, bitmap, wrote, Ran, wrote_bytes, member, member_in, run}
 use Rattle.bitmap_spec.specs.Sets.{holds}

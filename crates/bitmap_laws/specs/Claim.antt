@@ -1,6 +1,6 @@
 -- What is claimed of every plan, and how often a plan uses a bitmap.
 use Rattle.std.specs.Prelude.{ℕ, ◌+◌, Bool, true, false, ◌≡◌, List, [], ◌∷◌, eqb, length}
-use Rattle.common.specs.Outcome.{Outcome, found, need, both, one}
+use Rattle.common.specs.Outcome.{found, need, both, one}
 use Rattle.common.specs.Lists.{mem}
 use Rattle.bitmap_spec.specs.Judge.{judge}
 use Rattle.bitmap_spec.specs.Form.{form}

@@ -11,7 +11,7 @@ use lib.Seq.{length-take-le}
 use lib.Dec.{ltb, eqb, leb}
 use mathlib.Core.Logic.{⊎_elim}
 use Rattle.common.specs.Outcome.{pick}
-use Rattle.common.specs.Lists.{from, keep, mem, rising}
+use Rattle.common.specs.Lists.{keep, mem, rising}
 use Rattle.bitmap_spec.specs.Bits.{bit}
 use Rattle.bitmap_spec.specs.Judge.{size_of, dense, container, container_ok}
 use Rattle.bitmap_spec.specs.Ask.{below}

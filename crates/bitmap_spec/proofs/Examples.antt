@@ -8,13 +8,13 @@ use mathlib.Core.Bool.{Bool, true, false}
 use mathlib.Core.List.{List, [], ◌∷◌, ◌++◌}
 use lib.ListN.{replicate}
 use lib.Count.{count_leading_zeros}
-use Rattle.common.specs.Outcome.{Outcome, refused, found, need}
+use Rattle.common.specs.Outcome.{refused, found, need}
 use Rattle.common.specs.Lists.{from, keep, mem, rising, sum, every, table}
 use Rattle.common.specs.Bytes.{ceil8, little_at}
 use Rattle.bitmap_spec.specs.Bits.{bit, bits, value, spare_zero, packed, bytes_of, value_bit, pack_values}
-use Rattle.bitmap_spec.specs.Judge.{head_with, head_at, chunk_end, widths_ok, part, descriptor, Chunk, chunk_with, chunk, last_chunk, chunks, size_of, dense, container, container_ok, containers_ok, members_from, judge_body, judge}
+use Rattle.bitmap_spec.specs.Judge.{head_with, head_at, chunk_end, widths_ok, part, descriptor, chunk_with, chunk, last_chunk, chunks, size_of, dense, container, container_ok, containers_ok, members_from, judge_body, judge}
 use Rattle.bitmap_spec.specs.Form.{smallest, least, largest, width, wider, cost, cheapest, chunk_at, chunk_of, write_chunk, write_chunks, cut, descriptor_of, write_container, write_containers, count_of, little, form_of, form}
-use Rattle.bitmap_spec.specs.Ask.{below, check, probe, rank, at_or_above, place_after, Page, page_of, page_in, page}
+use Rattle.bitmap_spec.specs.Ask.{below, check, probe, rank, at_or_above, place_after, page_of, page_in, page}
 use Rattle.bitmap_spec.specs.Sets.{combine}
 use Rattle.bitmap_spec.specs.Output.{placed, write, called}
 use Rattle.bitmap_spec.specs.declared.Operation.TheVariants.{Union, Difference}

@@ -1,16 +1,15 @@
 -- What an accepted chunk and its containers are.
 -- Assumes nothing.
-use mathlib.Core.Path.{◌≡◌, refl, sym, ap, ap₂, ◌∙◌}
+use mathlib.Core.Path.{◌≡◌, refl, sym, ap, ◌∙◌}
 use mathlib.Core.Bool.{Bool, true, false}
 use mathlib.Core.List.{List, [], ◌∷◌, ◌++◌, map}
-use Prim.Native.Nat.{ℕ, zero, suc, ◌+◌, ◌-◌, ◌*◌, ◌/◌, ◌%◌, ◌^◌, ◌≤◌, ◌<◌}
+use Prim.Native.Nat.{ℕ, zero, suc, ◌+◌, ◌*◌, ◌≤◌}
 use native.Mathlib.Nat.{add_assoc, add-zero}
 use native.Mathlib.Omega.{arith}
 use borrow.Author.Tests.{leb-true}
-use lib.ListN.{length, get_or, take, drop, length-append, length-map}
+use lib.ListN.{length, length-append, length-map}
 use Rattle.common.proofs.Lists.{length-table}
-use Rattle.common.specs.Bytes.{ceil8}
-use Rattle.common.specs.Outcome.{Outcome, refused, found, then, need, both, pick}
+use Rattle.common.specs.Outcome.{Outcome, refused, found, then, need, both}
 use Rattle.bitmap_spec.specs.declared.ChunkHead.{ChunkHead}
 use Rattle.bitmap_spec.specs.Judge.{Chunk, descriptor, chunk, chunk_with, last_chunk, chunks, size_of, container}
 use Rattle.bitmap_spec.specs.Judge.{container_ok, containers_ok, members_from}

@@ -1,5 +1,5 @@
 -- Asking a bitmap: its cardinality, a position's membership and rank, and pages of its members.
-use Rattle.std.specs.Prelude.{ℕ, suc, ◌+◌, Bool, true, false, List, [], ◌∷◌, length, take, leb, ltb}
+use Rattle.std.specs.Prelude.{ℕ, ◌+◌, Bool, true, false, List, [], ◌∷◌, length, take, leb, ltb}
 use Rattle.common.specs.Outcome.{pick, Outcome, found, then}
 use Rattle.common.specs.Lists.{keep, mem}
 use Rattle.bitmap_spec.specs.Judge.{judge}

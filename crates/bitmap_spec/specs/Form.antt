@@ -1,5 +1,5 @@
 -- The one written form of a set, which is given as its strictly rising list of positions.
-use Rattle.std.specs.Prelude.{ℕ, zero, suc, ◌+◌, ◌-◌, ◌*◌, ◌/◌, ◌%◌, ◌^◌, min, max, Bool, List, [], ◌∷◌, ◌++◌, map, length, get_or, take, drop, ltb, eqb}
+use Rattle.std.specs.Prelude.{ℕ, zero, suc, ◌+◌, ◌-◌, ◌*◌, ◌/◌, ◌%◌, ◌^◌, min, max, List, [], ◌∷◌, ◌++◌, map, length, get_or, take, drop, ltb, eqb}
 use Rattle.std.specs.Int.Count.{count_leading_zeros}
 use Rattle.common.specs.Outcome.{pick, one}
 use Rattle.common.specs.Lists.{from, keep, mem}

@@ -1,6 +1,6 @@
 -- What a bitmap's bytes mean: the refusal that comes first in 01's order, or the set of its members.
-use Rattle.std.specs.Prelude.{ℕ, zero, suc, ◌+◌, ◌-◌, ◌*◌, ◌/◌, ◌%◌, ◌^◌, Bool, true, List, [], ◌∷◌, ◌++◌, map, length, get_or, take, drop, leb, ltb, eqb}
-use Rattle.common.specs.Outcome.{pick, both, Outcome, refused, found, then, need}
+use Rattle.std.specs.Prelude.{ℕ, zero, suc, ◌+◌, ◌*◌, ◌/◌, ◌%◌, ◌^◌, Bool, true, List, [], ◌∷◌, ◌++◌, map, length, get_or, take, drop, leb, ltb, eqb}
+use Rattle.common.specs.Outcome.{pick, both, Outcome, found, then, need}
 use Rattle.common.specs.Lists.{from, keep, rising, sum, every, table}
 use Rattle.common.specs.Bytes.{ceil8, little_at}
 use Rattle.bitmap_spec.specs.Bits.{bit, value, spare_zero}

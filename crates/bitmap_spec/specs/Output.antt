@@ -1,5 +1,5 @@
 -- What a call that writes a bitmap answers, and what it leaves in its output.
-use Rattle.std.specs.Prelude.{ℕ, ◌+◌, ◌≡◌, List, [], ◌∷◌, ◌++◌, length, take, drop, leb}
+use Rattle.std.specs.Prelude.{ℕ, ◌+◌, ◌≡◌, List, ◌++◌, length, take, drop, leb}
 use Rattle.common.specs.Outcome.{Outcome, refused, found, then, need}
 use Rattle.common.specs.Lists.{rising}
 use Rattle.bitmap_spec.specs.Judge.{judge}

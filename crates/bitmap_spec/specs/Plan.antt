@@ -1,5 +1,5 @@
 -- Plans: combining calls over accepted bitmaps and over what smaller plans wrote.
-use Rattle.std.specs.Prelude.{ℕ, ◌+◌, Bool, true, ◌≡◌, List, ◌++◌, length, take, leb}
+use Rattle.std.specs.Prelude.{ℕ, Bool, true, ◌≡◌, List, length, take, leb}
 use Rattle.common.specs.Outcome.{Outcome, refused, found, then, both}
 use Rattle.common.specs.Lists.{mem}
 use Rattle.bitmap_spec.specs.Judge.{judge}

@@ -3,13 +3,13 @@
 use mathlib.Core.Path.{◌≡◌, refl, sym, ap, ◌∙◌}
 use mathlib.Core.Bool
 use mathlib.Core.Bool.{true}
-use mathlib.Core.List.{List, [], map, ◌++◌}
+use mathlib.Core.List.{List, map}
 use Prim.Native.Nat.{ℕ, ◌+◌, ◌-◌, ◌*◌, ◌≤◌, ◌<◌, min}
 use native.Mathlib.Omega.{arith}
-use borrow.Author.Tests.{lt-ltb, eqb-true}
-use lib.ListN.{length, get_or, set, take, length-append}
+use borrow.Author.Tests.{lt-ltb}
+use lib.ListN.{length, set, take}
 use Rattle.common.specs.Outcome.{need}
-use Rattle.common.specs.Lists.{from, keep, mem, rising}
+use Rattle.common.specs.Lists.{from, mem, rising}
 use Rattle.bitmap_spec.specs.Judge.{dense}
 use Rattle.bitmap_spec.specs.Form.{form, cut, count_of, descriptor_of, write_container, write_containers}
 use Rattle.bitmap_spec.specs.Sets.{IsSet}
@@ -18,13 +18,13 @@ use Rattle.bitmap_spec.specs.declared.Written.{Written}
 use Rattle.bitmap_spec.specs.declared.Written.TheVariants.{Refused}
 use Rattle.bitmap_laws.proofs.Containers.{picked}
 use Rattle.bitmap_laws.proofs.Cuts.{cut_up}
-use Rattle.bitmap_laws.proofs.Output.{Along, along-room, along-length, along-step, taken}
+use Rattle.bitmap_laws.proofs.Output.{Along, along-step, taken}
 use Rattle.blocks.specs.Block.{block}
 use Rattle.blocks.proofs.Blocks.{block-members}
 use Rattle.form_write.specs.Described.{descs_to, Describes}
 use Rattle.form_write.proofs.Cells.{desc-turn, desc-length, cells-step, cell_room}
 use Rattle.bitmap_write.specs.Run.{Below, Ends, run}
-use Rattle.bitmap_write.proofs.Runs.{below_next, run-cut, run_length, run-order}
+use Rattle.bitmap_write.proofs.Runs.{below_next, run-cut, run_length}
 
 -- the next run
 pub next-below : (ps : List ℕ) (k i j : ℕ) → IsSet ps → Below ps (k * 256) i → Ends ps i ((k + 1) * 256) j → Below ps ((k + 1) * 256) j

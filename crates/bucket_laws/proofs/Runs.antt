@@ -5,7 +5,7 @@ use mathlib.Core.Bool.{true}
 use mathlib.Core.List.{List}
 use Prim.Native.Nat.{ℕ, zero, suc, ◌<◌}
 use native.Mathlib.Nat.{not-suc-le-zero, le_of_suc-le-suc}
-use Rattle.common.specs.Outcome.{refused, found, then}
+use Rattle.common.specs.Outcome.{refused, found}
 use Rattle.common.proofs.Outcomes.{clash, same-found, then_found}
 use Rattle.row_spec.specs.Value.{value_at, on_value}
 use Rattle.row_spec.specs.declared.ColumnType.{ColumnType}

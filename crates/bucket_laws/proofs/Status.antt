@@ -1,12 +1,12 @@
 -- No question about a bucket is refused with 0.
 -- Assumes nothing.
-use mathlib.Core.Path.{◌≡◌, refl}
+use mathlib.Core.Path.{◌≡◌}
 use mathlib.Core.List.{List, [], ◌∷◌, ◌++◌}
 use mathlib.Core.Bool.{Bool, true}
 use Prim.Native.Nat.{ℕ, zero, suc, ◌+◌, ◌*◌}
 use lib.ListN.{length}
 use lib.Dec.{eqb}
-use Rattle.common.specs.Outcome.{Outcome, refused, found, status, Numbered}
+use Rattle.common.specs.Outcome.{Outcome, found, status, Numbered}
 use Rattle.common.specs.Bytes.{ceil8}
 use Rattle.common.proofs.Outcomes.{found-numbered, need-numbered, pick-numbered, then-numbered}
 use Rattle.common.proofs.Outcomes.{told-numbered, zero-found, then_found}

@@ -1,23 +1,20 @@
 -- One part, column by column; parts whose pieces agree are the same.
 -- Assumes nothing.
-use mathlib.Core.Path.{◌≡◌, refl, sym, ap, ◌∙◌}
-use mathlib.Core.Bool.{Bool, true, false, not}
+use mathlib.Core.Path.{◌≡◌, refl, ap, ◌∙◌}
+use mathlib.Core.Bool.{not}
 use mathlib.Core.List.{List, [], ◌∷◌, ◌++◌}
 use Prim.Native.Nat.{ℕ, zero, suc, ◌+◌, ◌-◌, ◌*◌, ◌≤◌, ◌<◌}
 use native.Mathlib.Numerals.{add-one}
 use native.Mathlib.Omega.{arith}
-use lib.ListN.{length, get_or, take, set, length-set}
-use lib.Seq.{take-suc-set, get_or-take, length-take-le}
+use lib.ListN.{length, get_or, take, set}
+use lib.Seq.{take-suc-set, get_or-take}
 use lib.Dec.{eqb}
-use borrow.Author.Tests.{eq-eqb, ne_eqb}
 use Rattle.common.specs.Outcome.{both, either, Outcome, refused, found, then}
 use Rattle.common.specs.Bytes.{low_bit, low_bits}
 use Rattle.row_spec.specs.Schema.{columns_of, blank_column}
 use Rattle.row_spec.specs.declared.Schema.{Schema}
-use Rattle.row_spec.specs.declared.Column.{Column}
 use Rattle.bucket_spec.specs.Piece.{piece}
-use Rattle.bucket_spec.specs.Bucket.{Part, along, col_of, tag_of, mapped, piece_of, tag_allowed}
-use Rattle.bucket_spec.specs.Read.{next_outcome}
+use Rattle.bucket_spec.specs.Bucket.{along, col_of, tag_of, mapped, piece_of, tag_allowed}
 
 module _ (step : ℕ → ℕ → Outcome ℕ) (n i at : ℕ) (done : List ℕ) where
   module _ (more : i < n) where

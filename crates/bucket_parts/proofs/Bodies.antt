@@ -1,17 +1,17 @@
 -- What follows the header, test by test, and the whole bucket.
 -- Assumes nothing.
-use mathlib.Core.Path.{◌≡◌, refl, sym, ap, ◌∙◌}
-use mathlib.Core.Bool.{Bool, true, false}
+use mathlib.Core.Path.{◌≡◌}
+use mathlib.Core.Bool.{true, false}
 use mathlib.Core.List.{List}
 use Prim.Native.Nat.{ℕ, ◌+◌, ◌*◌, ◌≤◌, ◌<◌}
 use lib.ListN.{length}
 use lib.Dec.{leb}
 use borrow.Author.Tests.{le-leb, lt-leb}
-use Rattle.common.specs.Outcome.{Outcome, refused, found, then, need, both}
+use Rattle.common.specs.Outcome.{refused, found, then, need}
 use Rattle.common.specs.Lists.{from, every}
 use Rattle.common.specs.Bytes.{ceil8, low_spare_zero}
 use Rattle.row_spec.specs.declared.Column.{Column}
-use Rattle.bucket_spec.specs.Bucket.{Layout, Judged, tag_allowed, parts, body, tags_at, bucket}
+use Rattle.bucket_spec.specs.Bucket.{tag_allowed, parts, body, tags_at, bucket}
 
 module _ (cols : List Column) (rows : ℕ) (s : List ℕ) (tags has k : ℕ) (len : length cols ≡ k) where
   pub body-tags : leb has (length s) ≡ false → body cols rows s tags has ≡ refused 31

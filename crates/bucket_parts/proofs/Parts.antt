@@ -13,7 +13,7 @@ use Rattle.bucket_spec.specs.Piece.{piece}
 use Rattle.common.specs.Bytes.{ceil8}
 use Rattle.row_spec.specs.Schema.{columns_of}
 use Rattle.row_spec.specs.declared.Schema.{Schema}
-use Rattle.bucket_spec.specs.Bucket.{Part, Layout, Judged, along, piece_of, parts, body, bucket}
+use Rattle.bucket_spec.specs.Bucket.{Part, along, piece_of, parts, body, bucket}
 use Rattle.bucket_spec.specs.declared.Frame.{Frame}
 use Rattle.bucket_spec.specs.declared.BucketRead.{BucketRead}
 use Rattle.bucket_parts.specs.Told.{BodyRead, Judgement, frame_at}

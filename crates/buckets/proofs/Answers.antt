@@ -1,25 +1,23 @@
 -- From a judged bucket to the answer of a call.
 -- Assumes nothing.
-use mathlib.Core.Path.{◌≡◌, refl, sym, ap, ◌∙◌}
-use mathlib.Core.Bool.{Bool, true, false, not}
+use mathlib.Core.Path.{◌≡◌, sym, ◌∙◌}
+use mathlib.Core.Bool.{true, false, not}
 use mathlib.Core.List.{List}
 use Prim.Native.Nat.{ℕ, ◌+◌, ◌*◌, ◌≤◌, ◌<◌}
 use lib.ListN.{length, get_or}
 use lib.Seq.{get_or-take}
 use lib.Dec.{eqb}
 use borrow.Author.Tests.{lt-ltb, le-ltb}
-use Rattle.common.specs.Outcome.{pick, both, either, Outcome, refused, found, then, need}
+use Rattle.common.specs.Outcome.{pick, both, either, refused, found, need}
 use Rattle.common.specs.Bytes.{ceil8, low_bit, low_bits}
 use Rattle.row_spec.specs.Schema.{schema, held, columns_of, blank_column}
 use Rattle.row_spec.specs.declared.Schema.{Schema}
 use Rattle.row_spec.specs.declared.SchemaRead.{SchemaRead}
-use Rattle.row_spec.specs.declared.Column.{Column}
-use Rattle.row_spec.specs.declared.Field.{Field}
 use Rattle.row_spec.specs.declared.Field.TheVariants.{Null}
 use Rattle.row_laws.proofs.Read.{read-refused, read_found}
 use Rattle.bucket_spec.specs.Piece.{value_of}
-use Rattle.bucket_spec.specs.Bucket.{Layout, Judged, answer, is_null, col_of, tag_of, mapped, bucket, bucket_refusal, bucket_field}
-use Rattle.bucket_spec.specs.Read.{layout_read, bucket_outcome}
+use Rattle.bucket_spec.specs.Bucket.{answer, is_null, col_of, tag_of, mapped, bucket, bucket_refusal, bucket_field}
+use Rattle.bucket_spec.specs.Read.{layout_read}
 use Rattle.bucket_spec.specs.declared.BucketRead.{BucketRead}
 use Rattle.bucket_parts.specs.Told.{Judgement}
 

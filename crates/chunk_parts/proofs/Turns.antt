@@ -1,22 +1,20 @@
 -- A turn of each filling loop.
 -- Assumes nothing.
-use mathlib.Core.Path.{◌≡◌, refl, sym, ap, ap₂, ◌∙◌}
+use mathlib.Core.Path.{◌≡◌, refl, sym, ap, ◌∙◌}
 use mathlib.Core.Logic.{◌⊎◌, ⊎_elim}
-use mathlib.Core.Bool.{Bool, true, false}
-use mathlib.Core.List.{List, [], ◌∷◌, ◌++◌, map}
-use Prim.Native.Nat.{ℕ, zero, suc, ◌+◌, ◌-◌, ◌*◌, ◌/◌, ◌%◌, ◌^◌, ◌≤◌, ◌<◌, min, max}
-use native.Mathlib.Nat.{add-zero, zero-add}
+use mathlib.Core.List.{List, [], ◌∷◌, ◌++◌}
+use Prim.Native.Nat.{ℕ, zero, suc, ◌+◌, ◌-◌, ◌≤◌, ◌<◌}
+use native.Mathlib.Nat.{zero-add}
 use Rattle.common.specs.Lists.{keep, from}
-use Rattle.common.specs.Outcome.{pick}
 use Rattle.bitmap_spec.specs.Output.{written}
 use Rattle.bitmap_laws.proofs.Cuts.{from-cat, keep_append}
-use Rattle.bitmap_laws.proofs.Output.{written-more, written_none, length-written}
+use Rattle.bitmap_laws.proofs.Output.{written-more}
 use Rattle.chunk_parts.specs.Kept.{is_over, offsets}
 use native.Mathlib.Numerals.{add-one}
 use native.Mathlib.Omega.{arith}
 use borrow.Author.Tests.{lt-ltb, le-ltb}
-use lib.ListN.{length, get_or, set, take, length-append, length-map, get_or-append}
-use lib.Seq.{take-suc, take-length, length-take-le, get_or-append_seam}
+use lib.ListN.{length, get_or, set, length-append, get_or-append}
+use lib.Seq.{get_or-append_seam}
 use mathlib.Core.List
 use Rattle.bitmap_spec.proofs.Window
 

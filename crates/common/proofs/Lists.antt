@@ -1,18 +1,16 @@
 -- Laws of the lists that the definitions use.
 -- Assumes nothing.
-use mathlib.Core.Path.{◌≡◌, refl, sym, ap, ap₂, ◌∙◌}
-use mathlib.Core.Logic.{◌⊎◌, inl, inr, ⊎_elim}
+use mathlib.Core.Path.{◌≡◌, refl, sym, ap, ◌∙◌}
 use mathlib.Core.Bool.{Bool, true, false}
 use mathlib.Core.List.{List, [], ◌∷◌, ◌++◌}
-use Prim.Native.Nat.{ℕ, zero, suc, ◌+◌, ◌-◌, ◌*◌, ◌/◌, ◌%◌, ◌^◌, ◌≤◌, ◌<◌}
+use Prim.Native.Nat.{ℕ, zero, suc, ◌+◌, ◌-◌, ◌≤◌, ◌<◌}
 use native.Mathlib.Nat.{add-zero, zero-add, add-suc, suc-add, not-suc-le-zero, le_of_suc-le-suc}
-use native.Mathlib.Numerals.{add-one}
 use native.Mathlib.Omega.{arith}
 use borrow.Author.Tests.{leb-true, ltb-true}
 use lib.ListN.{length, get_or, take, drop}
-use lib.Seq.{drop-cons, get_or-take, get_or-drop}
-use lib.Dec.{leb, ltb, eqb}
-use Rattle.common.specs.Outcome.{pick, both, one}
+use lib.Seq.{drop-cons}
+use lib.Dec.{leb, ltb}
+use Rattle.common.specs.Outcome.{both}
 use Rattle.common.specs.Lists.{from, rising, every, table}
 
 -- ---- a test that holds of both, of each

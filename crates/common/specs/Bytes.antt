@@ -1,5 +1,5 @@
 -- Numbers of several bytes, and bits counted from the low end of each byte. Every definition is for any width.
-use Rattle.std.specs.Prelude.{ℕ, zero, suc, ◌+◌, ◌-◌, ◌*◌, ◌/◌, ◌%◌, ◌^◌, Bool, true, false, List, get_or, ltb, eqb, ℤ, pos, negsuc}
+use Rattle.std.specs.Prelude.{ℕ, zero, suc, ◌+◌, ◌-◌, ◌*◌, ◌/◌, ◌%◌, ◌^◌, Bool, List, get_or, ltb, eqb, ℤ, pos, negsuc}
 use Rattle.common.specs.Outcome.{pick, either}
 
 -- n divided by 8, rounded up: the bytes that n bits take

@@ -1,28 +1,24 @@
 -- The containers of a set, one by one: how many there are, their descriptors, their members and their bytes.
 -- Assumes nothing.
-use mathlib.Core.Path.{◌≡◌, refl, sym, ap, ap₂, ◌∙◌}
-use mathlib.Core.Logic.{◌⊎◌, inl, inr, ⊎_elim}
+use mathlib.Core.Path.{◌≡◌, refl, sym, ap, ◌∙◌}
+use mathlib.Core.Logic.{◌⊎◌, ⊎_elim}
 use mathlib.Core.Bool.{Bool, true, false}
-use mathlib.Core.List.{List, [], ◌∷◌, ◌++◌, map, append_assoc, append-nil}
-use Prim.Native.Nat.{ℕ, zero, suc, ◌+◌, ◌-◌, ◌*◌, ◌/◌, ◌%◌, ◌^◌, ◌≤◌, ◌<◌, min, max}
-use native.Mathlib.Nat.{add-zero, zero-add, add_assoc, eq-or-lt_of_le}
+use mathlib.Core.List.{List, [], ◌∷◌, ◌++◌, map}
+use Prim.Native.Nat.{ℕ, suc, ◌+◌, ◌-◌, ◌*◌, ◌≤◌, ◌<◌, min, max}
+use native.Mathlib.Nat.{zero-add}
 use native.Mathlib.Numerals.{add-one}
 use native.Mathlib.Omega.{arith}
-use borrow.Author.Tests.{lt-ltb, le-ltb}
-use lib.Dec.{ltb, eqb}
-use lib.ListN.{length, get_or, set, take, drop, length-append, length-map, length-drop}
-use lib.Seq.{get_or-take, get_or-drop, ext_get_or, length-take-le, take-suc, take-length}
-use Rattle.common.specs.Lists.{keep, from, mem, rising, table}
-use Rattle.common.specs.Outcome.{pick, one}
+use lib.ListN.{length, set, length-append, length-map}
+use Rattle.common.specs.Lists.{keep, from, mem}
 use Rattle.bitmap_spec.proofs.Window.{below_or}
 use Rattle.bitmap_spec.specs.Form.{cut, count_of, largest, descriptor_of, write_container, write_containers}
 use Rattle.bitmap_spec.specs.Output.{written}
 use Rattle.form_write.specs.Described.{descs_to}
 use Rattle.chunk_write.proofs.Laying.{mem-here, mem-later}
 use Rattle.bitmap_laws.proofs.Output.{Along, along-room, along-length, written-more, written_none}
-use Rattle.bitmap_laws.proofs.Cuts.{length_from, from-cat, from_cons, from-none, keep_append, cut-shift, two_runs}
+use Rattle.bitmap_laws.proofs.Cuts.{length_from, from-cat, from_cons, from-none, cut-shift, two_runs}
 use Rattle.bitmap_laws.proofs.Cuts.{cut_up}
-use Rattle.bitmap_laws.proofs.Members.{mem-keep, mem-high, mem-low, mem-large, rising-keep, mem-head}
+use Rattle.bitmap_laws.proofs.Members.{mem-keep, mem-high, mem-large, mem-head}
 use Rattle.bitmap_laws.proofs.Rise.{rising-length}
 
 not-both : (b : Bool) → b ≡ true → b ≡ false → ⊥

@@ -1,23 +1,22 @@
 -- The parts of a form, one after the other, and the form of a described set.
 -- Assumes nothing.
-use mathlib.Core.Path.{◌≡◌, refl, sym, ap, ◌∙◌}
+use mathlib.Core.Path.{◌≡◌, sym, ap, ◌∙◌}
 use mathlib.Core.List.{List, [], ◌∷◌, ◌++◌, map, append_assoc}
 use Prim.Native.Nat.{ℕ, ◌+◌, ◌*◌, ◌/◌, ◌%◌, ◌≤◌, ◌<◌}
 use native.Mathlib.Numerals.{add-one}
 use native.Mathlib.Omega.{arith}
 use borrow.Author.Tests.{lt-ltb, le-ltb}
-use lib.ListN.{length, get_or, take, drop, length-append, length-map, drop_of_length-le}
+use lib.ListN.{length, get_or, drop, length-append, drop_of_length-le}
 use lib.Seq.{drop-cons}
 use Rattle.common.specs.Lists.{from, sum, keep, mem}
 use Rattle.bitmap_spec.specs.Judge.{size_of}
-use Rattle.bitmap_spec.specs.Form.{form, cut, count_of, descriptor_of, write_chunks, write_containers}
-use Rattle.bitmap_spec.specs.Output.{written, placed, Gives}
+use Rattle.bitmap_spec.specs.Form.{form, cut, count_of, write_chunks, write_containers}
+use Rattle.bitmap_spec.specs.Output.{written}
 use Rattle.bitmap_spec.specs.Sets.{IsSet}
-use Rattle.bitmap_spec.specs.declared.Written.TheVariants.{Refused, Length}
 use Rattle.bitmap_laws.proofs.Bodies.{descs-le, sizes-are}
 use Rattle.bitmap_laws.proofs.Cuts.{joined-form, joined-cut, length-cuts}
 use Rattle.bitmap_laws.proofs.Length.{form-bound}
-use Rattle.bitmap_laws.proofs.Output.{written-cat, from_start, refuse13, give}
+use Rattle.bitmap_laws.proofs.Output.{written-cat, from_start}
 use Rattle.bitmap_laws.proofs.Rise.{count-bound}
 use Rattle.bitmap_laws.proofs.Round.{header, form-is, six-is}
 use Rattle.bitmap_laws.proofs.Values.{AllLe}

@@ -1,11 +1,11 @@
 -- Containers put behind one another, and header and chunks before them: the form, and all else as it was.
 -- Assumes nothing.
 use mathlib.Core.Path.{◌≡◌, refl, sym, ap, ◌∙◌}
-use mathlib.Core.Bool.{Bool, true, false, not}
+use mathlib.Core.Bool.{Bool, true, false}
 use mathlib.Core.List.{List, ◌++◌, map}
 use Prim.Native.Nat.{ℕ, ◌+◌, ◌*◌, ◌/◌, ◌≤◌, ◌<◌}
 use native.Mathlib.Omega.{arith}
-use borrow.Author.Tests.{leb-true, leb-false, le-leb, not-true, not-false}
+use borrow.Author.Tests.{leb-true, leb-false, le-leb}
 use lib.Dec.{leb}
 use lib.ListN.{replicate, length-replicate, length, take, drop, length-append}
 use lib.Seq.{take_all}
@@ -107,11 +107,11 @@ body-size l card ds body f = ap length f.bytes ∙ sym (cells-sum l (length ds) 
 -- ---- what the test of room says
 module _ (ds : List ℕ) (size room : ℕ) (r : Bool)
     (e : r ≡ leb (6 + length (write_chunks (length ds / 256) ds) + size) room) where
-  pub fits-yes : not r ≡ false → 6 + length (write_chunks (length ds / 256) ds) + size ≤ room
-  fits-yes h = leb-true (6 + length (write_chunks (length ds / 256) ds) + size) room (sym e ∙ not-false r h)
+  pub fits-yes : r ≡ true → 6 + length (write_chunks (length ds / 256) ds) + size ≤ room
+  fits-yes h = leb-true (6 + length (write_chunks (length ds / 256) ds) + size) room (sym e ∙ h)
 
-  pub fits-no : not r ≡ true → room < 6 + length (write_chunks (length ds / 256) ds) + size
-  fits-no h = leb-false (6 + length (write_chunks (length ds / 256) ds) + size) room (sym e ∙ not-true r h)
+  pub fits-no : r ≡ false → room < 6 + length (write_chunks (length ds / 256) ds) + size
+  fits-no h = leb-false (6 + length (write_chunks (length ds / 256) ds) + size) room (sym e ∙ h)
 
 pub fits_bound : (ds : List ℕ) (size room : ℕ) → AllLe 63 ds → 6 + 195 * ((length ds + 255) / 256) + size ≤ room
     → true ≡ leb (6 + length (write_chunks (length ds / 256) ds) + size) room

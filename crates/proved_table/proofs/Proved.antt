@@ -2,7 +2,7 @@
 -- Assumes nothing.
 use mathlib.Core.Path.{refl}
 use Rattle.bitmap_spec.proofs.Examples.{computed}
-use Rattle.row_spec.specs.Examples.{row_line}
+use Rattle.row_spec.proofs.Examples.{row_line}
 use Rattle.bucket_spec.specs.Examples.{bucket-line}
 use Rattle.proved_table.specs.Table.{All, lines}
 

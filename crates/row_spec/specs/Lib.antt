@@ -4,5 +4,3 @@ pub mod Value
 pub mod Block
 pub mod Page
 pub mod Answer
-pub mod Examples
-pub mod NumberExamples

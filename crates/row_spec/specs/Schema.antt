@@ -1,5 +1,5 @@
 -- "Schema bytes": the columns, or the refusal 20.
-use Rattle.std.specs.Prelude.{ℕ, zero, suc, ◌+◌, List, [], ◌∷◌, ◌++◌, length, get_or, take, drop, replicate, leb, ltb, eqb, true, false}
+use Rattle.std.specs.Prelude.{ℕ, zero, suc, ◌+◌, List, [], ◌∷◌, ◌++◌, length, get_or, take, drop, replicate, leb, ltb, eqb, false}
 use Rattle.common.specs.Outcome.{pick, both, Outcome, refused, found, then, need}
 use Rattle.row_spec.specs.Varint.{varint_at, on_varint}
 use Rattle.row_spec.specs.declared.Varint.{Varint}
