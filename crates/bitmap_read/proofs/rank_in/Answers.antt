@@ -1,0 +1,41 @@
+-- The judgement's refusal, or the count in the set that it lends a view of.
+-- Assumes nothing.
+use mathlib.Core.Path.{ap, ◌∙◌}
+use Prim.Native.Nat.{◌-◌}
+use Rattle.common.specs.Outcome.{found}
+use Rattle.bitmap_spec.specs.Ask.{rank, below}
+use Rattle.judge.specs.Post.{SliceView}
+use Rattle.judge.proofs.Judging.{in-refused, in-accepted, viewed-is, view-own}
+use Rattle.bitmap_read.proofs.rank_in.Goals as goal
+
+pub judge_slice-requires : goal.judge_slice-requires
+judge_slice-requires c =
+    c.requires
+
+pub set_below-requires : goal.set_below-requires
+set_below-requires c =
+    let t = in-accepted SliceView c.args.s.now _ _ c.judge_slice.ensures _ _ _
+    c.in-Accepted.is in
+    view-own c.args.s.now _ _ _ t.0 t.3
+
+pub shape_of-d-in-Refused : goal.shape_of-d-in-Refused
+shape_of-d-in-Refused c =
+    c.judge_slice.auto.d
+
+pub returns-in-Refused : goal.returns-in-Refused
+unfolding rank
+returns-in-Refused c =
+    let e = in-refused SliceView c.args.s.now _ _ c.judge_slice.ensures _ c.in-Refused.is in
+    rw e
+
+pub shape_of-d-in-Accepted : goal.shape_of-d-in-Accepted
+shape_of-d-in-Accepted c =
+    c.judge_slice.auto.d
+
+pub returns-in-Accepted : goal.returns-in-Accepted
+unfolding rank
+returns-in-Accepted c =
+    let t = in-accepted SliceView c.args.s.now _ _
+    c.judge_slice.ensures _
+    _ _ c.in-Accepted.is in
+    rw t.1 (ap found (c.set_below.ensures ∙ ap (below c.args.position) (viewed-is c.args.s.now _ _ _ t.0 t.3)))
