@@ -10,15 +10,16 @@
  *
  * Stack, in KiB, that is enough for a call at the largest inputs (measured; no proof covers it):
  *   42  bv_bitmap_union bv_bitmap_intersection bv_bitmap_difference bv_bitmap_symmetric_difference
- *   19  bv_store_put bv_bucket_field bv_bucket_page
- *   16  bv_bucket_check
- *   11  bv_bitmap_write
+ *   19  bv_store_put
+ *   15  bv_bucket_page
+ *   14  bv_bucket_field
+ *   11  bv_bucket_check bv_bitmap_write
  *   10  bv_bitmap_check bv_bitmap_explain bv_bitmap_probe bv_bitmap_rank bv_bitmap_page
  *   10  bv_store_fetch bv_store_drop bv_store_save bv_store_load
- *    9  bv_block_page
- *    8  bv_block_field
- *    6  bv_block_check bv_schema_column
- *    4  bv_schema_check
+ *    7  bv_block_page
+ *    6  bv_schema_column
+ *    5  bv_block_field
+ *    4  bv_block_check bv_schema_check
  *    1  bv_number_read
  *
  * Refusals:

@@ -49,8 +49,7 @@ fn put_few(vals: &[u8], w: u32, out: &mut [u8], at: usize) -> usize
     let mut acc: u32 = 0;
     let mut r: u32 = 0;
     let mut q: usize = 0;
-    let mut i: usize = 0;
-    while i < vals.len() {
+    for i in 0..vals.len() {
         let all = push(acc, w, vals[i]);
         let have = r + w;
         if have < 8 {
@@ -62,7 +61,6 @@ fn put_few(vals: &[u8], w: u32, out: &mut [u8], at: usize) -> usize
             acc = low_bits(all, r);
             q += 1;
         }
-        i += 1;
     }
     if r == 0 {
         return q;
@@ -78,25 +76,20 @@ fn group_word(vals: &[u8], i: usize, w: u32) -> u64
 {
     let m: u64 = 1 << w;
     let mut x: u64 = 0;
-    let mut t: usize = 0;
-    while t < 8 {
+    for t in 0..8 {
         x = x * m + vals[i + t] as u64 % m;
-        t += 1;
     }
     x
 }
 
 // The w bytes of x, highest first, from out[at] on.
-fn put_bytes(x: u64, w: u32, out: &mut [u8], at: usize) -> u32
+fn put_bytes(x: u64, w: u32, out: &mut [u8], at: usize)
     requires { (w ≤ 8) × (at + w ≤ length out.old) }
     ensures { out.new ≡ written out.old at (table (λ b. x / 2 ^ (8 * (w - 1 - b)) % 256) 0 w) }
 {
-    let mut b: u32 = 0;
-    while b < w {
+    for b in 0..w {
         out[at + b as usize] = ((x >> (8 * (w - 1 - b))) % 256) as u8;
-        b += 1;
     }
-    b
 }
 
 // The low w bits of the values of g groups of eight, packed, from out[at] on: w bytes for each group. Eight values are
@@ -106,12 +99,10 @@ fn put_groups(vals: &[u8], g: usize, w: u32, out: &mut [u8], at: usize) -> usize
     ensures { (result ≡ g * w) × (out.new ≡ written out.old at (pack_values (λ i. get_or vals.now i 0) w (8 * g))) }
 {
     let mut q: usize = 0;
-    let mut j: usize = 0;
-    while j < g {
+    for j in 0..g {
         let x = group_word(vals, 8 * j, w);
         put_bytes(x, w, out, at + q);
         q += w as usize;
-        j += 1;
     }
     q
 }

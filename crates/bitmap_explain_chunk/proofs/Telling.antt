@@ -6,48 +6,48 @@ use mathlib.Core.List.{List, [], ◌∷◌}
 use Prim.Native.Nat.{ℕ, suc, ◌+◌, ◌-◌, ◌*◌, ◌/◌, ◌≤◌, ◌<◌}
 use native.Mathlib.Omega.{arith}
 use borrow.Author.Tests.{le-leb, lt-leb, lt-ltb, le-ltb}
-use lib.ListN.{length, get_or, take, drop, length-drop}
-use lib.Seq.{length-take-le}
+use native.Mathlib.Numerals.{add-one}
+use lib.ListN.{length, get_or, take, drop, length-drop, drop_of_length-le}
+use lib.Seq.{length-take-le, drop-cons}
 use lib.Dec.{leb, ltb, leb-suc-suc, leb-suc-zero}
-use Rattle.common.proofs.Lists.{run-cons}
 use Rattle.common.specs.Lists.{rising}
 use Rattle.common.specs.Outcome.{pick, both}
 use Rattle.bitmap_spec.specs.Bits.{spare_zero}
 use Rattle.bitmap_spec.specs.Judge.{Chunk, descriptor, widths_ok, head_at, chunk_end}
 use Rattle.bitmap_spec.specs.declared.ChunkHead.{ChunkHead}
-use Rattle.bitmap_explain_spec.specs.declared.Fault.{Fault}
+use Rattle.bitmap_explain_spec.specs.Explain.{Fault}
 use Rattle.bitmap_explain_spec.specs.Explain.{fault, Told, fine, need_at, risen, first_over, spare_byte, offsets_of}
 use Rattle.bitmap_explain_spec.specs.Explain.{explained_with, explained_chunk}
 use Rattle.bitmap_explain_chunk.specs.Post.{Tells}
 
 -- ---- the offsets that are left
 
-module _ (n lo : ℕ) (s : List ℕ) (o e i : ℕ) where
-  risen-step : i < e → o + e ≤ length s → risen n lo (take (e - i) (drop (o + i) s))
-      ≡ pick (both (leb lo (get_or s (o + i) 0)) (ltb (get_or s (o + i) 0) n))
-      (suc (risen n (suc (get_or s (o + i) 0)) (take (e - (i + 1)) (drop (o + (i + 1)) s)))) 0
+module _ (n low : ℕ) (l : List ℕ) (i : ℕ) where
+  risen-step : i < length l → risen n low (drop i l) ≡ pick (both (leb low (get_or l i 0)) (ltb (get_or l i 0) n))
+      (suc (risen n (get_or l i 0 + 1) (drop (i + 1) l))) 0
   unfolding risen
-  risen-step h g = rw (run-cons s o e i h g)
+  risen-step h = rw (add-one i, add-one (get_or l i 0), drop-cons l i 0 h)
 
-  pub risen-low : i < e → o + e ≤ length s → get_or s (o + i) 0 < lo → risen n lo (take (e - i) (drop (o + i) s)) ≡ 0
-  risen-low h g l = risen-step h g ∙ rw (lt-leb _ _ l)
+  pub risen-low : i < length l → get_or l i 0 < low → risen n low (drop i l) ≡ 0
+  risen-low h g = risen-step h ∙ rw (lt-leb _ _ g)
 
-  pub risen-high : i < e → o + e ≤ length s → lo ≤ get_or s (o + i) 0 → n ≤ get_or s (o + i) 0
-      → risen n lo (take (e - i) (drop (o + i) s)) ≡ 0
-  risen-high h g l m = risen-step h g ∙ rw (le-leb _ _ l, le-ltb _ _ m)
+  pub risen-high : i < length l → low ≤ get_or l i 0 → n ≤ get_or l i 0 → risen n low (drop i l) ≡ 0
+  risen-high h g m = risen-step h ∙ rw (le-leb _ _ g, le-ltb _ _ m)
 
-  pub risen-on : i < e → o + e ≤ length s → lo ≤ get_or s (o + i) 0 → get_or s (o + i) 0 < n
-      → risen n lo (take (e - i) (drop (o + i) s)) ≡ suc (risen n (get_or s (o + i) 0 + 1)
-      (take (e - (i + 1)) (drop (o + (i + 1)) s)))
-  risen-on h g l m =
-      let a : get_or s (o + i) 0 + 1 ≡ suc (get_or s (o + i) 0) = omega arith in
-      rw a (risen-step h g ∙ rw (le-leb _ _ l, lt-ltb _ _ m))
+  pub risen-on : i < length l → low ≤ get_or l i 0 → get_or l i 0 < n
+      → risen n low (drop i l) ≡ suc (risen n (get_or l i 0 + 1) (drop (i + 1) l))
+  risen-on h g m = risen-step h ∙ rw (le-leb _ _ g, lt-ltb _ _ m)
 
-  pub risen-end : e ≤ i → risen n lo (take (e - i) (drop (o + i) s)) ≡ 0
+  pub risen-end : length l ≤ i → risen n low (drop i l) ≡ 0
   unfolding risen
-  risen-end h =
-      let a : e - i ≡ 0 = omega arith in
-      rw a
+  risen-end h = rw (drop_of_length-le l {i = i} h)
+
+-- the part of s between the offsets and what follows them
+pub risen-part : (n : ℕ) (s : List ℕ) (o e p j : ℕ) → p ≡ o + e → j ≡ risen n 0 (take (p - o) (drop o s))
+    → j ≡ risen n 0 (take e (drop o s))
+risen-part n s o e p j q h =
+    let m : p - o ≡ e = omega arith in
+    rw m at h
 
 -- a list rises exactly if none of it is the first wrong one
 rising-risen : (n lo : ℕ) (l : List ℕ) → rising n lo l ≡ leb (length l) (risen n lo l)

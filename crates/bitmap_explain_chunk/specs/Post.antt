@@ -2,7 +2,7 @@
 use Rattle.std.specs.Prelude.{ℕ, ◌+◌, ◌≤◌, ◌<◌, ◌≡◌, Bool, true, false, List, get_or}
 use Rattle.bitmap_spec.specs.Judge.{Chunk}
 use Rattle.bitmap_spec.specs.declared.ChunkHead.{ChunkHead}
-use Rattle.bitmap_explain_spec.specs.declared.Fault.{Fault}
+use Rattle.bitmap_explain_spec.specs.Explain.{Fault}
 use Rattle.bitmap_explain_spec.specs.Explain.{Told, faulty}
 
 -- a fault that is told is this one

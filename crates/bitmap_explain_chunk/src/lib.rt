@@ -6,17 +6,20 @@ ghost use Rattle.common.specs.Lists.{rising};
 ghost use Rattle.bitmap_spec.specs.Judge.{descriptor, chunk_end};
 ghost use Rattle.chunk_read.specs.Post.{Laid};
 ghost use Rattle.bitmap_explain_spec.specs.Explain.{fault, risen, first_over, explained_with, explained_chunk};
+ghost use Rattle.bitmap_explain_spec.specs.Told.{numbers};
+ghost use Rattle.common.specs.Refusal.{number};
 ghost use Rattle.bitmap_explain_chunk.specs.Post.{Tells, Reached, Owns};
 
 use bitmap_explain_spec::Fault;
 use bitmap_spec::ChunkHead;
+use common::Refusal;
 
 // A fault of a chunk or container that tells its place alone.
-pub fn fault_of_part(number: u32, index: usize, byte: usize) -> Fault
-    ensures { result ≡ fault number index byte 0 0 }
+pub fn fault_of_part(refusal: Refusal, index: usize, byte: usize) -> Fault
+    ensures { numbers result ≡ fault (number refusal) index byte 0 0 }
 {
     Fault {
-        number,
+        refusal,
         index,
         byte,
         found: 0,
@@ -24,25 +27,22 @@ pub fn fault_of_part(number: u32, index: usize, byte: usize) -> Fault
     }
 }
 
-// How many of the e bytes at o, from the first on, rise strictly and are below n.
-fn risen_at(s: &[u8], o: usize, e: usize, n: usize) -> usize
-    requires { o + e ≤ length s.now }
-    ensures { (result ≡ risen n 0 (take e (drop o s.now))) × (result ≤ e) }
+// How many of the offsets, from the first on, rise strictly and are below n.
+fn risen_at(offsets: &[u8], n: usize) -> usize
+    ensures { (result ≡ risen n 0 offsets.now) × (result ≤ length offsets.now) }
 {
-    let mut lo: usize = 0;
-    let mut i: usize = 0;
-    while i < e {
-        let x = s[o + i] as usize;
-        if x < lo {
+    let mut low: usize = 0;
+    for (i, &x) in offsets.iter().enumerate() {
+        let offset = x as usize;
+        if offset < low {
             return i;
         }
-        if n <= x {
+        if n <= offset {
             return i;
         }
-        lo = x + 1;
-        i += 1;
+        low = offset + 1;
     }
-    i
+    offsets.len()
 }
 
 // Whether there is an exception j, and it is descriptor i's.
@@ -73,15 +73,13 @@ fn first_over(s: &[u8], h: ChunkHead, n: usize) -> u32
     requires { (h.m < 256) × Laid (length s.now) n h × (chunk_end h ≤ length s.now) × (rising n 0 (take h.e (drop h.offsets s.now)) ≡ true) }
     ensures { result ≡ first_over (descriptor s.now h) 0 n }
 {
-    let mut i: usize = 0;
     let mut j: usize = 0;
-    while i < n {
+    for i in 0..n {
         let v = descriptor_at(s, h, i, j);
         if 63 < v {
             return v;
         }
         j += owns(s, h, i, j) as usize;
-        i += 1;
     }
     0
 }
@@ -89,25 +87,33 @@ fn first_over(s: &[u8], h: ChunkHead, n: usize) -> u32
 // The fault of chunk `index`, of n descriptors, at `at`, after its three bytes and the rule on widths: 4, 6, 7, 8.
 fn arrays_fault(s: &[u8], index: usize, at: usize, n: usize, h: ChunkHead) -> Fault
     requires { (h.m < 256) × Laid (length s.now) n h }
-    ensures { Tells (explained_with s.now index at n h) result }
+    ensures { Tells (explained_with s.now index at n h) (numbers result) }
 {
     let end = h.parts + (h.e * (h.b2 as usize) + 7) / 8;
     if s.len() < end {
-        return fault_of_part(4, index, at);
+        return fault_of_part(Refusal::ChunkCut, index, at);
     }
-    let j = risen_at(s, h.offsets, h.e, n);
+    let j = risen_at(&s[h.offsets..h.parts], n);
     if j < h.e {
-        return fault_of_part(6, index, h.offsets + j);
+        return fault_of_part(Refusal::ChunkOffsets, index, h.offsets + j);
     }
     if !chunk_read::spare_zero(s, h.primary, h.b1, n) {
-        return fault_of_part(7, index, h.primary + n * (h.b1 as usize) / 8);
+        return fault_of_part(
+            Refusal::ChunkSpare,
+            index,
+            h.primary + n * (h.b1 as usize) / 8,
+        );
     }
     if !chunk_read::spare_zero(s, h.parts, h.b2, h.e) {
-        return fault_of_part(7, index, h.parts + h.e * (h.b2 as usize) / 8);
+        return fault_of_part(
+            Refusal::ChunkSpare,
+            index,
+            h.parts + h.e * (h.b2 as usize) / 8,
+        );
     }
     let v = first_over(s, h, n);
     Fault {
-        number: 8,
+        refusal: Refusal::ChunkDescriptor,
         index,
         byte: at,
         found: v as usize,
@@ -118,14 +124,14 @@ fn arrays_fault(s: &[u8], index: usize, at: usize, n: usize, h: ChunkHead) -> Fa
 // The fault of chunk `index`, of n descriptors, at `at`, where it has one.
 pub fn chunk_fault(s: &[u8], index: usize, at: usize, n: usize) -> Fault
     requires { (at ≤ length s.now) × (n ≤ 256) }
-    ensures { Tells (explained_chunk s.now index at n) result }
+    ensures { Tells (explained_chunk s.now index at n) (numbers result) }
 {
     if s.len() < at + 3 {
-        return fault_of_part(4, index, at);
+        return fault_of_part(Refusal::ChunkCut, index, at);
     }
     let h = chunk_read::head_at(s, at, n);
     if !chunk_read::widths_ok(h) {
-        return fault_of_part(5, index, at);
+        return fault_of_part(Refusal::ChunkWidths, index, at);
     }
     arrays_fault(s, index, at, n, h)
 }

@@ -11,7 +11,7 @@ use Rattle.common.specs.Bytes.{little_at}
 use Rattle.common.specs.Outcome.{Outcome, refused, found, then, need}
 use Rattle.bitmap_spec.specs.Judge.{head_at, Chunk, chunk_with, chunk, last_chunk, chunks, judge_body, judge}
 use Rattle.bitmap_spec.specs.declared.ChunkHead.{ChunkHead}
-use Rattle.bitmap_explain_spec.specs.declared.Fault.{Fault}
+use Rattle.bitmap_explain_spec.specs.Explain.{Fault}
 use Rattle.bitmap_explain_spec.specs.Explain.{Told, faulty, fine, then_told, need_at, numbered, offsets_of}
 use Rattle.bitmap_explain_spec.specs.Explain.{explained_with, explained_chunk, explained_last, explained_chunks}
 use Rattle.bitmap_explain_spec.specs.Explain.{explained_body, explained}

@@ -15,7 +15,7 @@ use Rattle.common.proofs.Lists.{every-hit}
 use Rattle.common.specs.Outcome.{found, pick}
 use Rattle.bitmap_spec.specs.Judge.{head_at, descriptor, Chunk, chunk, last_chunk, chunks, judge}
 use Rattle.bitmap_laws.proofs.Accept.{then_found}
-use Rattle.bitmap_explain_spec.specs.declared.Fault.{Fault}
+use Rattle.bitmap_explain_spec.specs.Explain.{Fault}
 use Rattle.bitmap_explain_spec.specs.Explain.{fault, Told, faulty, fine, then_told, need_at, fault_of}
 use Rattle.bitmap_explain_spec.specs.Explain.{offsets_of, container_at, explained_with}
 use Rattle.bitmap_explain_spec.specs.Explain.{explained_chunk, explained_last, explained_chunks, explained_body, explained}

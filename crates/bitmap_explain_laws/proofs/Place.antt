@@ -15,7 +15,7 @@ use Rattle.common.specs.Lists.{every, from}
 use Rattle.common.specs.Outcome.{found, then}
 use Rattle.bitmap_spec.specs.Judge.{head_at, descriptor, Chunk, chunk, last_chunk, chunks}
 use Rattle.bitmap_laws.proofs.Accept.{then_found}
-use Rattle.bitmap_explain_spec.specs.declared.Fault.{Fault}
+use Rattle.bitmap_explain_spec.specs.Explain.{Fault}
 use Rattle.bitmap_explain_spec.specs.Explain.{fault, Told, faulty, fine, then_told, need_at, numbered, risen, first_over}
 use Rattle.bitmap_explain_spec.specs.Explain.{well_formed, offsets_of, explained_with, explained_chunk}
 use Rattle.bitmap_explain_spec.specs.Explain.{explained_last, explained_chunks, explained_body, explained}

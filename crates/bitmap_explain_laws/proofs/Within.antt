@@ -14,7 +14,7 @@ use Rattle.common.specs.Outcome.{pick, both}
 use Rattle.bitmap_spec.specs.Judge.{head_with, head_at, chunk_end, Chunk, size_of}
 use Rattle.bitmap_spec.proofs.Reading.{chunks-ends}
 use Rattle.bitmap_spec.specs.declared.ChunkHead.{ChunkHead}
-use Rattle.bitmap_explain_spec.specs.declared.Fault.{Fault}
+use Rattle.bitmap_explain_spec.specs.Explain.{Fault}
 use Rattle.bitmap_explain_spec.specs.Explain.{risen, spare_byte, offsets_of, container_at}
 use Rattle.bitmap_explain_spec.specs.Broken.{ChunkBroken, no-three, bad-widths, no-arrays, bad-offset}
 use Rattle.bitmap_explain_spec.specs.Broken.{spare-primary, spare-parts, over-63, Headed, Described, Broken}

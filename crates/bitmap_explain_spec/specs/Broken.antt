@@ -8,8 +8,7 @@ use Rattle.bitmap_spec.specs.Bits.{spare_zero}
 use Rattle.bitmap_spec.specs.Judge.{head_at, chunk_end, widths_ok, descriptor, Chunk, chunks, size_of, container_ok}
 use Rattle.bitmap_spec.specs.Judge.{containers_ok, members_from}
 use Rattle.bitmap_spec.specs.declared.ChunkHead.{ChunkHead}
-use Rattle.bitmap_explain_spec.specs.declared.Fault.{Fault}
-use Rattle.bitmap_explain_spec.specs.Explain.{fault, spare_byte, offsets_of, container_at}
+use Rattle.bitmap_explain_spec.specs.Explain.{Fault, fault, spare_byte, offsets_of, container_at}
 
 -- ---- chunk i, of n descriptors, that starts at byte at
 

@@ -8,7 +8,15 @@ use Rattle.bitmap_spec.specs.Bits.{spare_zero}
 use Rattle.bitmap_spec.specs.Judge.{head_at, chunk_end, widths_ok, descriptor, Chunk, size_of, container_ok, containers_ok}
 use Rattle.bitmap_spec.specs.Judge.{members_from}
 use Rattle.bitmap_spec.specs.declared.ChunkHead.{ChunkHead}
-use Rattle.bitmap_explain_spec.specs.declared.Fault.{Fault}
+
+-- what is told of a refused bitmap: the refusal's number, the chunk or container at fault, the byte where it starts, and
+-- what was found and wanted; all five are 0 where there is no fault
+pub record Fault : Type 0 where
+  pub number : ℕ
+  pub index : ℕ
+  pub byte : ℕ
+  pub found : ℕ
+  pub wanted : ℕ
 
 -- number, index, byte, found, wanted
 abbrev pub fault : ℕ → ℕ → ℕ → ℕ → ℕ → Fault

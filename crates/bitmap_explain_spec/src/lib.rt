@@ -1,11 +1,13 @@
 // Why a bitmap is refused: the type that the definitions (specs/) and the code share. Inner: no entry point.
 #![tactic(auto)]
 
-// What is told of a refused bitmap. All five are 0 where there is no fault.
+use common::Refusal;
+
+// What is told of a refused bitmap.
 #[derive(Clone, Copy)]
 pub struct Fault {
-    // the refusal, 1 to 11
-    pub number: u32,
+    // one of a bitmap, 1 to 11
+    pub refusal: Refusal,
     // the chunk (4 to 8) or the container (10) at fault, counted from 0; else 0
     pub index: usize,
     // where in the bitmap the part at fault starts

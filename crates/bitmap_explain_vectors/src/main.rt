@@ -34,12 +34,13 @@ fn put_word(word: &[u8], out: &mut [u8], at: usize) -> usize
     requires { at ≤ length out.old }
     ensures { result ≤ length out.new }
 {
-    let rest = vector_text::after(word, b'*');
-    if rest.len() == 0 {
-        return put_digits(word, out, at);
+    match vector_text::after(word, b'*').split_first() {
+        None => put_digits(word, out, at),
+        Some((_, digits)) => {
+            let times = vector_text::small(vector_text::before(word, b'*'));
+            put_times(digits, times, out, at)
+        }
     }
-    let times = vector_text::small(vector_text::before(word, b'*'));
-    put_times(&rest[1..], times, out, at)
 }
 
 // The words of a line, up to 100.
@@ -49,7 +50,7 @@ fn put_words(line: &[u8], out: &mut [u8]) -> usize
     let mut end: usize = 0;
     for k in 0..100 {
         let w = vector_text::word(line, k);
-        if w.len() == 0 {
+        if w.is_empty() {
             return end;
         }
         end = put_word(w, out, end);
@@ -57,37 +58,23 @@ fn put_words(line: &[u8], out: &mut [u8]) -> usize
     end
 }
 
-fn show<W: Write>(to: &mut W, s: &[u8]) -> io::Result<()> {
-    let f = bitmap_explain::explain(s);
-    vector_text::print_after(to, b"", f.number as u64)?;
-    vector_text::print_after(to, b" ", f.index as u64)?;
-    vector_text::print_after(to, b" ", f.byte as u64)?;
-    vector_text::print_after(to, b" ", f.found as u64)?;
-    vector_text::print_after(to, b" ", f.wanted as u64)?;
-    vector_text::print(to, b"\n")
-}
-
-// A line that starts with # is printed; any other is a bitmap.
+// A line's bitmap and what is told of it.
 fn show_line<W: Write>(to: &mut W, line: &[u8]) -> io::Result<()> {
-    if vector_text::comment(to, line)? {
-        return Ok(());
-    }
     let mut bytes = [0u8; 280000];
     let n = put_words(line, &mut bytes);
-    show(to, &bytes[..n])
-}
-
-fn show_lines<W: Write>(to: &mut W, text: &[u8]) -> io::Result<()> {
-    for line in text.split(|c| *c == b'\n') {
-        show_line(to, line)?;
+    match bitmap_explain::explain(&bytes[..n]) {
+        None => writeln!(to, "0 0 0 0 0"),
+        Some(f) => {
+            let number = u32::from(f.refusal);
+            writeln!(
+                to,
+                "{number} {} {} {} {}",
+                f.index, f.byte, f.found, f.wanted
+            )
+        }
     }
-    Ok(())
 }
 
 fn main(rt: HostRuntime) -> io::Result<()> {
-    let mut text = [0u8; 65536];
-    let n = vector_text::read_full(&mut rt.reader(), &mut text)?;
-    let mut to = io::writer(&rt);
-    show_lines(&mut to, &text[..n])?;
-    to.flush()
+    vector_text::show_lines(&mut rt.reader(), &mut io::writer(&rt), show_line)
 }

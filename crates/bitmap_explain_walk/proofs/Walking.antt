@@ -12,20 +12,19 @@ use lib.ListN.{length, get_or, take, drop}
 use Rattle.common.specs.Bytes.{little_at}
 use Rattle.common.specs.Lists.{sum}
 use Rattle.common.specs.Outcome.{refused, found}
-use Rattle.bitmap_spec.specs.Judge.{Chunk, chunk, size_of, container_ok, containers_ok}
+use Rattle.bitmap_spec.specs.Judge.{Chunk, chunk, size_of, container_ok, containers_ok, members_from}
 use Rattle.bitmap_spec.proofs.Reading.{chunk-sound, walk, walk_is}
 use Rattle.judge.proofs.Judging.{bad, good}
-use Rattle.judge.proofs.Walking.{rest-cons, rest-none}
-use Rattle.bitmap_explain_spec.specs.declared.Fault.{Fault}
-use Rattle.bitmap_explain_spec.specs.Explain.{fault, Told, faulty, fine, then_told, need_at, numbered, fault_of}
+use Rattle.judge.proofs.Walking.{rest-cons}
+use Rattle.bitmap_explain_spec.specs.Explain.{Fault}
+use Rattle.bitmap_explain_spec.specs.Explain.{fault, Told, faulty, fine, then_told, need_at, numbered}
 use Rattle.bitmap_explain_spec.specs.Explain.{well_formed, container_at, explained_chunk, explained_last, explained_chunks}
-use Rattle.bitmap_explain_spec.specs.Explain.{explained_body}
+use Rattle.bitmap_explain_spec.specs.Explain.{explained_body, bad_container}
 use Rattle.bitmap_explain_laws.proofs.First.{sum-split}
 use Rattle.bitmap_explain_laws.proofs.Number.{chunk-number, fine-found}
 use Rattle.bitmap_explain_chunk.specs.Post.{Tells}
-use Rattle.bitmap_explain_walk.specs.Post.{Walks, Leads}
-use Rattle.bitmap_explain_walk.specs.declared.Leading.{Leading}
-use Rattle.bitmap_explain_walk.specs.declared.Walk.TheVariants.{Broken, Next}
+use Rattle.bitmap_explain_walk.specs.Post.{Walks}
+use Rattle.std.specs.Prelude.{Ok}
 
 -- a chunk refused has the fault that was found
 pub chunk-told : (s : List ℕ) (i at n m : ℕ) (r : Fault) → chunk s at n ≡ refused m → Tells (explained_chunk s i at n) r
@@ -90,15 +89,9 @@ again s out out' at a i whole rest o c l e q h inv =
       rw (f, h, ← q) (sym (chunks-step s at (take (i * 256) out) whole i rest c l d) ∙ inv),
     )
 
-module _ (t : Told Chunk) (len : ℕ) (after : List ℕ) (n : ℕ) where
-  pub broken : (f : Fault) → t ≡ faulty f → Walks t len after n (Broken f)
-  unfolding Walks
-  broken f e = e
-
-  pub next : (ds : List ℕ) (at : ℕ) → t ≡ fine (record { descs = ds; next = at }) → take n after ≡ ds → at ≤ len
-      → Walks t len after n (Next at)
-  unfolding Walks
-  next ds at e h l = (rw h e, l)
+pub next : (t : Told Chunk) (len : ℕ) (after : List ℕ) (n : ℕ) (ds : List ℕ) (at : ℕ)
+    → t ≡ fine (record { descs = ds; next = at }) → take n after ≡ ds → at ≤ len → Walks t len after n (Ok at)
+next t len after n ds at e h l = (rw h e, l)
 
 -- ---- containers
 
@@ -112,61 +105,43 @@ module _ (s d : List ℕ) (n i at : ℕ) (room : n ≤ length d) where
   unfolding well_formed
   well-good h e = rw (rest-cons d n i room h, e)
 
-  pub well-end : n ≤ i → well_formed s at (drop i (take n d)) ≡ 0
-  unfolding well_formed
-  well-end h = rw (rest-none d n i room h)
+-- the walk stopped behind i containers of descriptors ds, at byte at
+pub stopped : (s ds : List ℕ) (from i at : ℕ) → from + sum size_of ds ≡ length s
+    → at + sum size_of (drop i ds) ≡ length s → i ≡ well_formed s from ds → walk s from 0 ds ≡ refused 10
+    → (containers_ok s from ds ≡ false) × (fault 10 i at 0 0 ≡ bad_container s from ds)
+unfolding container_at
+stopped s ds from i at exact left is e =
+    let place : at ≡ container_at from ds i = omega (arith, sum-split ds i) in
+    ((bad (containers_ok s from ds) _ 10 (sym (walk_is s 0 from 0 ds) ∙ e)).0, rw (place, is))
 
--- i containers of descriptors ds are well formed, and end at byte at
-module _ (s ds : List ℕ) (from i at members : ℕ) (exact : from + sum size_of ds ≡ length s)
-    (left : at + sum size_of (drop i ds) ≡ length s) (is : i ≡ well_formed s from ds) where
-  place_is : at ≡ container_at from ds i
-  unfolding container_at
-  place_is = omega (arith, sum-split ds i)
-
-  pub leads-bad : i < length ds → walk s from 0 ds ≡ refused 10
-      → Leads s from ds (record { count = i; end = at; members = members })
-  leads-bad l e = record {
-    counts = is;
-    ends = place_is;
-    stops = λ m. (bad (containers_ok s from ds) _ 10 (sym (walk_is s 0 from 0 ds) ∙ e)).0;
-    holds = λ m. absurd (omega arith);
-  }
-
-  pub leads-all : length ds ≤ i → walk s from 0 ds ≡ found members
-      → Leads s from ds (record { count = i; end = at; members = members })
-  leads-all l e =
-      let g = good (containers_ok s from ds) _ _ (sym (walk_is s 0 from 0 ds) ∙ e) in record {
-        counts = is;
-        ends = place_is;
-        stops = λ m. absurd (omega arith);
-        holds = λ m. (g.0, sym g.1 ∙ zero-add _);
-      }
+-- it went over all
+pub passed : (s ds : List ℕ) (from members : ℕ) → walk s from 0 ds ≡ found members
+    → (containers_ok s from ds ≡ true) × (members ≡ length (members_from s 0 from ds))
+passed s ds from members e =
+    let g = good (containers_ok s from ds) _ _ (sym (walk_is s 0 from 0 ds) ∙ e) in
+    (g.0, sym g.1 ∙ zero-add _)
 
 -- ---- the body
 
 module _ (s ds : List ℕ) (at : ℕ) where
   pub body9 : (t : ℕ) → t ≡ sum size_of ds → (at + sum size_of ds ≡ length s → ⊥)
-      → fault 9 0 at (length s - at) t ≡ fault_of (explained_body s (record { descs = ds; next = at }))
+      → explained_body s (record { descs = ds; next = at }) ≡ faulty (fault 9 0 at (length s - at) t)
   unfolding explained_body need_at
   body9 t e h = rw (ne_eqb _ _ h, e)
 
-  module _ (exact : at + sum size_of ds ≡ length s) (w : Leading) (g : Leads s at ds w) where
-    pub body10 : w.count < length ds
-        → fault 10 w.count w.end 0 0 ≡ fault_of (explained_body s (record { descs = ds; next = at }))
+  module _ (exact : at + sum size_of ds ≡ length s) where
+    pub body10 : containers_ok s at ds ≡ false
+        → explained_body s (record { descs = ds; next = at }) ≡ faulty (bad_container s at ds)
     unfolding explained_body need_at
-    body10 l = rw (eq-eqb _ _ exact, g.stops l, g.ends, ← g.counts)
+    body10 h = rw (eq-eqb _ _ exact, h)
 
-    module _ (all : length ds ≤ w.count) where
-      pub body11 : (little_at s 1 3 ≡ w.members → ⊥)
-          → fault 11 0 1 (little_at s 1 3) w.members ≡ fault_of (explained_body s (record { descs = ds; next = at }))
+    module _ (ok : containers_ok s at ds ≡ true) (m : ℕ) (is : m ≡ length (members_from s 0 at ds)) where
+      pub body11 : (little_at s 1 3 ≡ m → ⊥)
+          → explained_body s (record { descs = ds; next = at }) ≡ faulty (fault 11 0 1 (little_at s 1 3) m)
       unfolding explained_body need_at
-      body11 h =
-          let q = g.holds all in
-          rw (eq-eqb _ _ exact, q.0, ← q.1, ne_eqb _ _ h)
+      body11 h = rw (eq-eqb _ _ exact, ok, ← is, ne_eqb _ _ h)
 
-      pub body_ok : little_at s 1 3 ≡ w.members
-          → fault 0 0 0 0 0 ≡ fault_of (explained_body s (record { descs = ds; next = at }))
+      pub body_ok : little_at s 1 3 ≡ m
+          → explained_body s (record { descs = ds; next = at }) ≡ fine (members_from s 0 at ds)
       unfolding explained_body need_at
-      body_ok h =
-          let q = g.holds all in
-          rw (eq-eqb _ _ exact, q.0, ← q.1, eq-eqb _ _ h)
+      body_ok h = rw (eq-eqb _ _ exact, ok, eq-eqb _ _ (h ∙ is))

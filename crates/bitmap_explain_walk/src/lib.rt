@@ -5,25 +5,20 @@ ghost use Rattle.std.specs.Prelude.{◌≡◌, [], ◌+◌, ◌*◌, ◌≤◌, 
 ghost use Rattle.common.specs.Lists.{sum};
 ghost use Rattle.common.specs.Bytes.{little_at};
 ghost use Rattle.bitmap_spec.specs.Judge.{size_of};
-ghost use Rattle.bitmap_explain_spec.specs.Explain.{fault, fault_of, explained_chunks, explained_body};
-ghost use Rattle.bitmap_explain_walk.specs.Post.{Walks, Leads};
+ghost use Rattle.bitmap_explain_spec.specs.Explain.{fault, explained_chunks, explained_body};
+ghost use Rattle.bitmap_explain_spec.specs.Told.{numbers, Finds};
+ghost use Rattle.common.specs.Refusal.{number};
+ghost use Rattle.bitmap_explain_walk.specs.Post.{Walks, Counts};
 
 use bitmap_explain_spec::Fault;
-use chunk_read::Step;
+use common::Refusal;
 
-// The first fault, or where the chunks end.
-#[derive(Clone, Copy)]
-pub enum Walk {
-    Broken(Fault),
-    Next(usize),
-}
-
-// A fault of the whole bitmap, with what was found and what was wanted; zeros for none.
-pub fn fault_of_whole(number: u32, byte: usize, found: usize, wanted: usize) -> Fault
-    ensures { result ≡ fault number 0 byte found wanted }
+// A fault of the whole bitmap, with what was found and what was wanted.
+pub fn fault_of_whole(refusal: Refusal, byte: usize, found: usize, wanted: usize) -> Fault
+    ensures { numbers result ≡ fault (number refusal) 0 byte found wanted }
 {
     Fault {
-        number,
+        refusal,
         index: 0,
         byte,
         found,
@@ -31,69 +26,52 @@ pub fn fault_of_whole(number: u32, byte: usize, found: usize, wanted: usize) -> 
     }
 }
 
-// The containers before the first that is not well formed: how many, where they end, and how many members they have.
-#[derive(Clone, Copy)]
-struct Leading {
-    count: usize,
-    end: usize,
-    members: u32,
-}
-
 // The first fault of the whole chunks of 256, and then of the last of fewer; or where they end, with their descriptors
 // in out.
-pub fn chunks_fault(s: &[u8], whole: usize, rest: usize, out: &mut [u8]) -> Walk
+pub fn chunks_fault(s: &[u8], whole: usize, rest: usize, out: &mut [u8]) -> Result<usize, Fault>
     requires { (6 ≤ length s.now) × (rest < 256) × (whole * 256 + rest ≤ length out.old) }
     ensures { Walks (explained_chunks s.now 0 6 [] whole rest) (length s.now) out.new (whole * 256 + rest) result }
 {
     let mut at: usize = 6;
-    let mut i: usize = 0;
-    while i < whole {
+    for i in 0..whole {
         match chunk_read::chunk_at(s, at, 256, out, i * 256) {
-            Step::Refused(_) => {
-                return Walk::Broken(bitmap_explain_chunk::chunk_fault(s, i, at, 256));
-            }
-            Step::Next(a) => {
+            Ok(a) => {
                 at = a;
             }
+            Err(_) => {
+                return Err(bitmap_explain_chunk::chunk_fault(s, i, at, 256));
+            }
         }
-        i += 1;
     }
     if rest == 0 {
-        return Walk::Next(at);
+        return Ok(at);
     }
     match chunk_read::chunk_at(s, at, rest, out, whole * 256) {
-        Step::Refused(_) => Walk::Broken(bitmap_explain_chunk::chunk_fault(s, whole, at, rest)),
-        Step::Next(a) => Walk::Next(a),
+        Ok(a) => Ok(a),
+        Err(_) => Err(bitmap_explain_chunk::chunk_fault(s, whole, at, rest)),
     }
 }
 
-// The containers before the first that is not well formed, or all n.
-fn lead(s: &[u8], from: usize, d: &[u8], n: usize) -> Leading
+// The fault of the first container that is not well formed; or how many members all have.
+fn containers_fault(s: &[u8], from: usize, d: &[u8], n: usize) -> Result<u32, Fault>
     requires { (n ≤ 8192) × (n ≤ length d.now) × (from + sum size_of (take n d.now) ≡ length s.now) }
-    ensures { Leads s.now from (take n d.now) result }
+    ensures { Counts s.now from (take n d.now) result }
 {
     let mut at = from;
     let mut members: u32 = 0;
-    let mut i: usize = 0;
-    while i < n {
+    for i in 0..n {
         let t = d[i];
-        let c = judge::container_at(s, at, t);
-        if !c.ok {
-            return Leading {
-                count: i,
-                end: at,
-                members,
-            };
+        match judge::container_at(s, at, t) {
+            Some(m) => {
+                members += m;
+            }
+            None => {
+                return Err(bitmap_explain_chunk::fault_of_part(Refusal::Container, i, at));
+            }
         }
-        members += c.members;
         at += judge::size_of(t);
-        i += 1;
     }
-    Leading {
-        count: i,
-        end: at,
-        members,
-    }
+    Ok(members)
 }
 
 // The cardinality that the header says.
@@ -105,21 +83,18 @@ fn stored(s: &[u8]) -> u32
 }
 
 // What follows the descriptors: faults 9, 10, 11, or none.
-pub fn body_fault(s: &[u8], at: usize, d: &[u8], n: usize) -> Fault
+pub fn body_fault(s: &[u8], at: usize, d: &[u8], n: usize) -> Result<(), Fault>
     requires { (4 ≤ length s.now) × (at ≤ length s.now) × (n ≤ 8192) × (n ≤ length d.now) }
-    ensures { result ≡ fault_of (explained_body s.now (record { descs = take n d.now; next = at })) }
+    ensures { Finds (explained_body s.now (record { descs = take n d.now; next = at })) result }
 {
     let total = judge::sizes(d, n);
     if at + total != s.len() {
-        return fault_of_whole(9, at, s.len() - at, total);
+        return Err(fault_of_whole(Refusal::BitmapRest, at, s.len() - at, total));
     }
-    let w = lead(s, at, d, n);
-    if w.count < n {
-        return bitmap_explain_chunk::fault_of_part(10, w.count, w.end);
-    }
+    let members = containers_fault(s, at, d, n)?;
     let said = stored(s);
-    if said != w.members {
-        return fault_of_whole(11, 1, said as usize, w.members as usize);
+    if said != members {
+        return Err(fault_of_whole(Refusal::Cardinality, 1, said as usize, members as usize));
     }
-    fault_of_whole(0, 0, 0, 0)
+    Ok(())
 }

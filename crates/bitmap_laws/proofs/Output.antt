@@ -10,7 +10,8 @@ use lib.ListN.{length, get_or, set, take, drop, length-append, length-drop, take
 use lib.Seq.{set_at, drop-cons, length-take-le, take_at, drop-drop, drop-append-add}
 use Rattle.common.specs.Outcome.{need}
 use Rattle.bitmap_spec.specs.Output.{written, placed, after, length_of, Gives}
-use Rattle.bitmap_spec.specs.declared.Written.TheVariants.{Refused, Length}
+use Rattle.std.specs.Prelude.{Ok, Err}
+use Rattle.common.specs.declared.Refusal.TheVariants.{Room}
 
 pub written_none : (before : List ℕ) (at : ℕ) → before ≡ written before at []
 unfolding written
@@ -87,10 +88,10 @@ along-end {before = before} {at = at} a e =
     (a.many ∙ ap length w, a.holds ∙ ap (λ (z : List ℕ). written before at z) w)
 
 -- ---- an answer and the output together
-pub refuse13 : (w before : List ℕ) → length before < length w → Gives (placed w (length before)) before before (Refused 13)
+pub refuse13 : (w before : List ℕ) → length before < length w → Gives (placed w (length before)) before before (Err Room)
 unfolding placed need after length_of
 refuse13 w before h = record { says = rw (lt-leb _ _ h); holds = rw (lt-leb _ _ h) }
 
-pub give : (w before rest : List ℕ) (n : ℕ) → length w ≤ length before → rest ≡ w ++ drop (length w) before → n ≡ length w → Gives (placed w (length before)) before rest (Length n)
+pub give : (w before rest : List ℕ) (n : ℕ) → length w ≤ length before → rest ≡ w ++ drop (length w) before → n ≡ length w → Gives (placed w (length before)) before rest (Ok n)
 unfolding placed need after length_of
 give w before rest n h e q = record { says = rw (le-leb _ _ h, q); holds = rw (le-leb _ _ h) e }

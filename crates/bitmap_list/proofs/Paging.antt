@@ -3,13 +3,12 @@
 use mathlib.Core.Path.{◌≡◌, refl, sym, ap, ◌∙◌}
 use mathlib.Core.Bool.{true, false}
 use mathlib.Core.List.{List, [], ◌∷◌, ◌++◌, map, append_assoc}
-use Prim.Native.Nat.{ℕ, suc, ◌+◌, ◌-◌, ◌*◌, ◌≤◌, ◌<◌}
+use Prim.Native.Nat.{ℕ, suc, ◌+◌, ◌*◌, ◌≤◌, ◌<◌}
 use native.Mathlib.Numerals.{add-one}
 use native.Mathlib.Omega.{arith}
 use borrow.Author.Tests.{le-leb, lt-leb}
 use lib.ListN.{length, get_or, take, drop, set, length-set, length-append, take-append-drop, drop_of_length-le}
 use lib.Seq.{take-suc-set, drop-set-lt, drop-drop, drop-cons, take_at, take_all, length-take-le}
-use lib.Dec.{leb}
 use Rattle.common.specs.Lists.{keep}
 use Rattle.bitmap_spec.specs.Judge.{size_of, container, members_from}
 use Rattle.bitmap_spec.specs.Ask.{at_or_above, place_after}
@@ -115,8 +114,8 @@ module _ (s d : List ℕ) (n at k p : ℕ) (w : Walk s d n at k) where
   page-enter before out given next all more g = page-rest before out given p next _ _ all (page-open more) g
 
   pub page-last : (before out : List ℕ) (given next : ℕ) (all : List ℕ) → n ≤ k → Paging before out given p next (at_or_above p (members_from s k at (drop k (take n d)))) all
-      → Filled all p before out (record { given = given; place = next; all = leb n k })
-  page-last before out given next all h g = rw (le-leb n k h) (page-end before out given p next all (page-rest before out given p next _ _ all (page-done h) g))
+      → Filled all p before out (record { given = given; place = next; all = true })
+  page-last before out given next all h g = page-end before out given p next all (page-rest before out given p next _ _ all (page-done h) g)
 
 -- ---- member j of the container at hand, k * 256 + y
 module _ (before out : List ℕ) (given place next k : ℕ) (c : List ℕ) (j : ℕ) (more all : List ℕ) (g : Paging before out given place next (left place k c j more) all) where
@@ -133,5 +132,5 @@ module _ (before out : List ℕ) (given place next k : ℕ) (c : List ℕ) (j : 
     pub page-off : k * 256 + y < place → Paging before out given place next (left place k c (j + 1) more) all
     page-off h = page-rest before out given place next _ _ all (left-off place k c j more l (rw (← is) h)) g
 
-    pub page-stop : (n : ℕ) → k < n → place ≤ k * 256 + y → given ≡ length out → Filled all place before out (record { given = given; place = next; all = leb n k })
-    page-stop n q h f = rw (lt-leb n k q) (page-full before out given place next (k * 256 + y) (left place k c (j + 1) more) all (at-or-above h) f)
+    pub page-stop : place ≤ k * 256 + y → given ≡ length out → Filled all place before out (record { given = given; place = next; all = false })
+    page-stop h f = page-full before out given place next (k * 256 + y) (left place k c (j + 1) more) all (at-or-above h) f

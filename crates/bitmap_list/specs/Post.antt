@@ -1,26 +1,17 @@
 -- What a page promises: its answer, and the list that it leaves.
-use Rattle.std.specs.Prelude.{ℕ, ◌+◌, ◌*◌, ◌≤◌, ◌≡◌, List, ◌++◌, length, take, drop, leb, eqb}
+use Rattle.std.specs.Prelude.{ℕ, ◌+◌, ◌*◌, ◌≤◌, ◌≡◌, Result, List, ◌++◌, length, take, drop, leb, eqb}
 use Rattle.common.specs.Outcome.{Outcome, refused, found}
 use Rattle.common.specs.Lists.{from, keep}
 use Rattle.bitmap_spec.specs.Bits.{bit}
 use Rattle.bitmap_spec.specs.Judge.{dense}
+use Rattle.common.specs.declared.Refusal.{Refusal}
+use Rattle.common.specs.Refusal.{outcome}
 use Rattle.bitmap_spec.specs.Ask.{Page, place_after}
-use Rattle.bitmap_spec.specs.declared.Listing.{Listing}
-use Rattle.bitmap_list.specs.declared.Paged.{Paged}
-use Rattle.bitmap_list.specs.declared.Paged.TheVariants as paging
+use Rattle.bitmap_list.specs.declared.given.Page as page
 use Rattle.bitmap_list.specs.declared.Run.{Run}
 
--- how many members a page gives, and where the listing then stands
-pub record Stand : Type 0 where
-  pub given : ℕ
-  pub next : Listing
-
--- the outcome that an answer stands for
-abbrev pub paged : Paged → Outcome Stand
-paged (paging.Refused n) = refused n
-paged (paging.Page g at) = found (record { given = g; next = at })
-
-unfoldable pub stand_of : Outcome Page → Outcome Stand
+-- what a page's outcome says: how many members it gives, and where the listing then stands
+unfoldable pub stand_of : Outcome Page → Outcome page.Page
 stand_of (refused n) = refused n
 stand_of (found p) = found (record { given = length p.given; next = p.next })
 
@@ -30,8 +21,8 @@ list_after (refused n) before = before
 list_after (found p) before = p.given ++ drop (length p.given) before
 
 -- a call of outcome o answers r and turns the list before into after
-pub record Pages (o : Outcome Page) (before after : List ℕ) (r : Paged) : Type 0 where
-  pub says : paged r ≡ stand_of o
+pub record Pages (o : Outcome Page) (before after : List ℕ) (r : Result page.Page Refusal) : Type 0 where
+  pub says : outcome r ≡ stand_of o
   pub holds : after ≡ list_after o before
 
 -- of the members l, all at or above the place, the first are written, as many as the list takes

@@ -4,19 +4,18 @@
 ghost use Rattle.std.specs.Prelude.{◌≡◌, ◌+◌, ◌*◌, ◌≤◌, ◌<◌, length, get_or, take, drop};
 ghost use Rattle.bitmap_spec.specs.Judge.{size_of, dense, container, members_from};
 ghost use Rattle.bitmap_spec.specs.Ask as ask;
-ghost use Rattle.judge.specs.Post.{SliceView, RoomFor, viewed};
+ghost use Rattle.judge.specs.Post.{RoomFor};
+ghost use Rattle.judge.specs.Asking.{members};
 ghost use Rattle.bitmap_read.proofs.Held.{Walk};
 ghost use Rattle.bitmap_list.specs.Post.{Pages, Filled, Decoded, Spread};
 
 use bitmap_spec::Listing;
-use judge::Judged;
+use common::Refusal;
+use judge::Set;
 
-// A refusal's number; or how many members the page gives, and where the listing then stands.
-#[derive(Clone, Copy)]
-pub enum Paged {
-    Refused(u32),
-    Page { given: usize, next: Listing },
-}
+mod given;
+
+pub use given::Page;
 
 // How many members a page takes, the place after the last of them, and whether none remains.
 #[derive(Clone, Copy)]
@@ -33,11 +32,9 @@ fn byte_members(s: &[u8], at: usize, q: usize, out: &mut [u8], n: usize) -> usiz
 {
     let b = s[at + q];
     let mut m = n;
-    let mut i: usize = 0;
-    while i < 8 {
+    for i in 0..8 {
         out[m] = (q * 8 + i) as u8;
         m += bits::bit_of(b, i) as usize;
-        i += 1;
     }
     m
 }
@@ -48,10 +45,8 @@ fn dense_members(s: &[u8], at: usize, out: &mut [u8]) -> usize
     ensures { (result ≡ length (dense s.now at)) × (take result out.new ≡ dense s.now at) }
 {
     let mut n: usize = 0;
-    let mut q: usize = 0;
-    while q < 32 {
+    for q in 0..32 {
         n = byte_members(s, at, q, out, n);
-        q += 1;
     }
     n
 }
@@ -79,94 +74,76 @@ fn member(s: &[u8], at: usize, d: u8, out: &[u8; 256], j: usize) -> u8
 }
 
 // Writes the members at or above the place, from container `first` at byte `from` on, until the list is full.
-fn fill_page(
-    s: &[u8],
-    d: &[u8],
-    n: usize,
-    first: usize,
-    from: usize,
-    place: u32,
-    list: &mut [u32],
-) -> Run
-    requires { (n ≤ 8192) × Walk s.now d.now n from first }
-    ensures { Filled (ask.at_or_above place (members_from s.now first from (drop first (take n d.now)))) place list.old list.new result }
+fn fill_page(set: &Set<'_>, first: usize, from: usize, place: u32, list: &mut [u32]) -> Run
+    requires { Walk set.now.bytes.now set.now.descriptors.now (length set.now.descriptors.now) from first }
+    ensures { Filled (ask.at_or_above place (members_from set.now.bytes.now first from (drop first set.now.descriptors.now))) place list.old list.new result }
 {
-    let mut members = [0u8; 256];
+    let s = set.bytes;
+    let d = set.descriptors;
+    let mut dense = [0u8; 256];
     let mut given: usize = 0;
     let mut next = place;
+    let mut all = true;
     let mut at = from;
-    let mut k = first;
-    'containers: while k < n {
+    'containers: for k in first..d.len() {
         let t = d[k];
-        let m = decode(s, at, t, &mut members);
-        let mut j: usize = 0;
-        while j < m {
-            let x = (k * 256) as u32 + member(s, at, t, &members, j) as u32;
+        let m = decode(s, at, t, &mut dense);
+        for j in 0..m {
+            let x = (k * 256) as u32 + member(s, at, t, &dense, j) as u32;
             if place <= x {
                 if given == list.len() {
+                    all = false;
                     break 'containers;
                 }
                 list[given] = x;
                 given += 1;
                 next = x + 1;
             }
-            j += 1;
         }
         at += judge::size_of(t);
-        k += 1;
     }
     Run {
         given,
         place: next,
-        all: n <= k,
+        all,
     }
 }
 
-// The same of a whole judged set: the containers wholly below the place are skipped.
-fn list_from(s: &[u8], d: &[u8], n: usize, start: usize, place: u32, list: &mut [u32]) -> Run
-    requires { SliceView s.now d.now n start (viewed s.now d.now n start) }
-    ensures { Filled (ask.at_or_above place (viewed s.now d.now n start)) place list.old list.new result }
+// The same of the whole set: the containers wholly below the place are skipped.
+fn list_from(set: &Set<'_>, place: u32, list: &mut [u32]) -> Run
+    ensures { Filled (ask.at_or_above place (members set.now)) place list.old list.new result }
 {
-    let k = (place / 256) as usize;
-    let first = if k < n { k } else { n };
-    let from = start + judge::sizes(d, first);
-    fill_page(s, d, n, first, from, place, list)
+    let first = set.descriptors.len().min((place / 256) as usize);
+    let from = set.start + judge::sizes(set.descriptors, first);
+    fill_page(set, first, from, place, list)
 }
 
 // Judges s with room for its descriptors, then gives the members from the place on, as many as the list takes.
-fn page_in(s: &[u8], at: Listing, d: &mut [u8], list: &mut [u32]) -> Paged
+fn page_in(s: &[u8], at: Listing, d: &mut [u8], list: &mut [u32]) -> Result<Page, Refusal>
     requires { RoomFor s.now (length d.old) }
     ensures { Pages (ask.page s.now at (length list.old)) list.old list.new result }
 {
-    match judge::judge_slice(s, d) {
-        Judged::Refused(r) => Paged::Refused(r),
-        Judged::Accepted {
-            count,
-            start,
-            cardinality: _,
-        } => {
-            if at.finished {
-                return Paged::Page { given: 0, next: at };
-            }
-            let r = list_from(s, d, count, start, at.place, list);
-            let given = r.given;
-            let next = Listing {
-                place: r.place,
-                finished: r.all,
-            };
-            Paged::Page { given, next }
-        }
+    let set = judge::set_in(s, d)?;
+    if at.finished {
+        return Ok(Page { given: 0, next: at });
     }
+    let run = list_from(&set, at.place, list);
+    Ok(Page {
+        given: run.given,
+        next: Listing {
+            place: run.place,
+            finished: run.all,
+        },
+    })
 }
 
-// Judges s, then gives the first members at or above the place, as many as the list takes.
-pub fn page(s: &[u8], at: Listing, list: &mut [u32]) -> Paged
+// Judges s, then gives the first members at or above the place, as many as the list takes. No closure for judge::ask: of
+// one that writes to what it borrows, its caller would know nothing.
+pub fn page(s: &[u8], at: Listing, list: &mut [u32]) -> Result<Page, Refusal>
     ensures { Pages (ask.page s.now at (length list.old)) list.old list.new result }
 {
     if judge::is_small(s) {
-        let mut d = [0u8; 256];
-        return page_in(s, at, &mut d, list);
+        return page_in(s, at, &mut [0u8; 256], list);
     }
-    let mut d = [0u8; 8192];
-    page_in(s, at, &mut d, list)
+    page_in(s, at, &mut [0u8; 8192], list)
 }

@@ -4,8 +4,8 @@ use mathlib.Core.Path.{◌≡◌, refl, sym, ap, ap₂, ◌∙◌}
 use mathlib.Core.Logic.{⊎_elim}
 use mathlib.Core.Bool.{Bool, true, false}
 use mathlib.Core.List.{List, [], ◌∷◌, ◌++◌, map}
-use Prim.Native.Nat.{ℕ, suc, ◌+◌, ◌-◌, ◌*◌, ◌/◌, ◌%◌, ◌≤◌, ◌<◌}
-use native.Mathlib.Nat.{add-zero, zero-add}
+use Prim.Native.Nat.{ℕ, suc, ◌+◌, ◌*◌, ◌/◌, ◌%◌, ◌≤◌, ◌<◌}
+use native.Mathlib.Nat.{add-zero}
 use native.Mathlib.Omega.{arith}
 use borrow.Author.Tests.{lt-ltb, le-ltb}
 use lib.ListN.{length, length-append, length-map, get_or, take, drop}
@@ -15,14 +15,14 @@ use Rattle.common.specs.Outcome.{pick}
 use Rattle.common.specs.Lists.{keep, rising}
 use Rattle.bitmap_spec.specs.Judge.{size_of, container, containers_ok, members_from}
 use Rattle.bitmap_spec.specs.Ask.{below}
-use Rattle.judge.specs.Post.{SliceView, viewed}
+use Rattle.judge.specs.Post.{viewed}
 use Rattle.bitmap_spec.proofs.Window.{below_or}
 use Rattle.bitmap_laws.proofs.Cuts.{keep_append}
 use Rattle.bitmap_laws.proofs.Members.{head_ok}
 use Rattle.bitmap_laws.proofs.Accept.{members-up}
 use Rattle.judge.proofs.Walking.{rest-none}
 use Rattle.bitmap_read.proofs.Containers.{few}
-use Rattle.bitmap_read.proofs.Held.{ok-first, ok-rest, shifted_up, Walk, walk_start, walk-cons, walk-ok}
+use Rattle.bitmap_read.proofs.Held.{ok-first, ok-rest, shifted_up, Walk, walk-cons, walk-ok}
 use Rattle.bitmap_read.proofs.Held.{walk-room, walk-next}
 
 pub below-cat : (x : ℕ) (a b : List ℕ) → below x (a ++ b) ≡ below x a + below x b
@@ -109,17 +109,6 @@ pub record Counting (s d : List ℕ) (n start x at sofar i : ℕ) : Type 0 where
   pub before : i ≤ x / 256
   pub small : sofar ≤ i * 256
   pub is : sofar + below x (members_from s i at (drop i (take n d))) ≡ below x (viewed s d n start)
-
-pub counting-start : (s d : List ℕ) (n start x : ℕ) → SliceView s d n start (viewed s d n start)
-    → Counting s d n start x start 0 0
-unfolding viewed
-counting-start s d n start x v =
-    record {
-      walk = walk_start s d _ n start v;
-      before = omega arith;
-      small = omega arith;
-      is = zero-add (below x (members_from s 0 start (take n d)));
-    }
 
 module _ (s d : List ℕ) (n start x at sofar i : ℕ) (c : Counting s d n start x at sofar i) where
   pub counted-all : n ≤ i → sofar ≡ below x (viewed s d n start)

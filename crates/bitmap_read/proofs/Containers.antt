@@ -1,55 +1,49 @@
 -- The bytes of one container: whether a number is among them, and how many are below it, byte by byte.
 -- Assumes nothing.
-use mathlib.Core.Path.{◌≡◌, sym, ◌∙◌}
-use mathlib.Core.Bool.{Bool, true, false}
-use mathlib.Core.List.{List}
+use mathlib.Core.Path.{◌≡◌, refl, sym, ◌∙◌}
+use mathlib.Core.Bool.{Bool, true, false, ◌||◌, cond}
+use mathlib.Core.List.{List, [], ◌∷◌}
 use Prim.Native.Nat.{ℕ, ◌+◌, ◌-◌, ◌*◌, ◌/◌, ◌%◌, ◌^◌, ◌≤◌, ◌<◌}
 use native.Mathlib.Omega.{arith}
-use borrow.Author.Tests.{eq-eqb, ne_eqb, lt-ltb, le-ltb}
+use borrow.Author.Tests.{lt-ltb, le-ltb}
+use Rattle.std.proofs.lemmas.Bool.Decides.{nat_tests}
+use Rattle.std.proofs.lemmas.List.Recursion.{is_count_by}
 use lib.ListN.{length, get_or, take, drop, length-drop}
 use lib.Seq.{length-take-le}
 use lib.Dec.{ltb, eqb, leb}
 use mathlib.Core.Logic.{⊎_elim}
 use Rattle.common.specs.Outcome.{pick}
 use Rattle.common.specs.Lists.{keep, mem, rising}
+use Rattle.std.specs.List.{list_any, count_by}
 use Rattle.bitmap_spec.specs.Bits.{bit}
 use Rattle.bitmap_spec.specs.Judge.{size_of, dense, container, container_ok}
 use Rattle.bitmap_spec.specs.Ask.{below}
-use Rattle.common.proofs.Lists.{run-cons}
 use Rattle.bitmap_spec.proofs.Tally.{bit_at}
 use Rattle.bitmap_spec.proofs.Window.{below_or}
 use Rattle.bitmap_laws.proofs.Members.{mem-keep, rising-keep}
 use Rattle.judge.proofs.Walking.{dense-few}
 
--- ---- what is left of a run of n bytes from at on
-module _ (s : List ℕ) (at n i j : ℕ) where
-  pub mem-hit : i < n → at + n ≤ length s → get_or s (at + i) 0 ≡ j → mem j (take (n - i) (drop (at + i) s)) ≡ true
-  unfolding mem
-  mem-hit h g e = rw (run-cons s at n i h g, eq-eqb j (get_or s (at + i) 0) (sym e))
+-- the library's search for an element is membership
+pub mem-any : (j : ℕ) (l : List ℕ) → list_any (λ x. eqb x j) l ≡ mem j l
+unfolding mem
+mem-any j [] = refl
+mem-any j (x ∷ l) = rw (mem-any j l, eqb-swap x j) (either-is (eqb j x) (mem j l))
+  where
+    eqb-swap : (a b : ℕ) → eqb a b ≡ eqb b a
+    eqb-swap a b = grind (arith, nat_tests)
 
-  pub mem-miss : i < n → at + n ≤ length s → (get_or s (at + i) 0 ≡ j → ⊥) → mem j (take (n - i) (drop (at + i) s)) ≡ mem j (take (n - (i + 1)) (drop (at + (i + 1)) s))
-  unfolding mem
-  mem-miss h g e = rw (run-cons s at n i h g, ne_eqb j (get_or s (at + i) 0) (λ q. e (sym q)))
+    either-is : (a b : Bool) → (a || b) ≡ pick a true b
+    either-is true b = refl
+    either-is false b = refl
 
-  pub mem-end : n ≤ i → mem j (take (n - i) (drop (at + i) s)) ≡ false
-  unfolding mem
-  mem-end h =
-      let e : n - i ≡ 0 = omega arith in
-      rw e
-
-  pub below_on : i < n → at + n ≤ length s → get_or s (at + i) 0 < j → below j (take (n - i) (drop (at + i) s)) ≡ 1 + below j (take (n - (i + 1)) (drop (at + (i + 1)) s))
-  unfolding below keep
-  below_on h g e = rw (run-cons s at n i h g, lt-ltb (get_or s (at + i) 0) j e) (omega arith)
-
-  pub below-off : i < n → at + n ≤ length s → j ≤ get_or s (at + i) 0 → below j (take (n - i) (drop (at + i) s)) ≡ below j (take (n - (i + 1)) (drop (at + (i + 1)) s))
-  unfolding below keep
-  below-off h g e = rw (run-cons s at n i h g, le-ltb (get_or s (at + i) 0) j e)
-
-  pub below_end : n ≤ i → below j (take (n - i) (drop (at + i) s)) ≡ 0
-  unfolding below keep
-  below_end h =
-      let e : n - i ≡ 0 = omega arith in
-      rw e
+-- the library's count of the elements below j
+pub below-count : (j : ℕ) (l : List ℕ) → count_by (λ x. ltb x j) l ≡ below j l
+unfolding below keep
+below-count j l = sym (is_count_by (λ xs. length (keep (λ y. ltb y j) xs)) (λ y. ltb y j) refl (λ x xs. one_more (ltb x j) x _) l)
+  where
+    one_more : (t : Bool) (x : ℕ) (xs : List ℕ) → length (pick t (x ∷ xs) xs) ≡ cond t (1 + length xs) (length xs)
+    one_more true x xs = omega arith
+    one_more false x xs = refl
 
 -- ---- one container
 module _ (s : List ℕ) (at d : ℕ) where

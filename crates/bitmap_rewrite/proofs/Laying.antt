@@ -18,7 +18,9 @@ use Rattle.form_write.proofs.Whole as whole
 use Rattle.judge.specs.Post.{SliceView, View}
 use Rattle.bitmap_rewrite.specs.Settled.{Settled, laid, Ready, Prepares}
 use Rattle.bitmap_rewrite.specs.declared.Prepared.{Prepared}
-use Rattle.bitmap_rewrite.specs.declared.Prepared.TheVariants as preparing
+use Rattle.std.specs.Prelude.{Ok, Err}
+use Rattle.common.specs.declared.Refusal.{Refusal}
+use Rattle.common.specs.Refusal.{number}
 use Rattle.bitmap_rewrite.proofs.Settling.{describes, form-laid, settled-many}
 
 pub length-laid : (s : List ℕ) (start : ℕ) (ds : List ℕ) (card : ℕ) → start ≤ length s
@@ -73,24 +75,23 @@ module _ (s d d' l : List ℕ) (n start m card size : ℕ) (j : judge s ≡ foun
           sized = e ∙ length-laid s start (take m d') 0 h ∙ sym (ap length f ∙ length-laid s start (take m d') card h);
         }
 
-pub prepares-refused : (s d : List ℕ) (n : ℕ) → judge s ≡ refused n → Prepares s d (preparing.Refused n)
+pub prepares-refused : (s d : List ℕ) (r : Refusal) → judge s ≡ refused (number r) → Prepares s d (Err r)
 unfolding Prepares
-prepares-refused s d n e = e
+prepares-refused s d r e = e
 
-pub prepares-form : (s d l : List ℕ) (n start card size : ℕ) → judge s ≡ found l → Ready s d l n start card size
-    → Prepares s d (preparing.Form n start card size)
+pub prepares-form : (s d l : List ℕ) (p : Prepared) → judge s ≡ found l → Ready s d l p.count p.start p.cardinality p.size
+    → Prepares s d (Ok p)
 unfolding Prepares
-prepares-form s d l n start card size e r = (l, e, r)
+prepares-form s d l p e r = (l, e, r)
 
-pub told-refused : (s d : List ℕ) (r : Prepared) → Prepares s d r → (n : ℕ) → r ≡ preparing.Refused n
-    → judge s ≡ refused n
+pub told-refused : (s d : List ℕ) (r : Refusal) → Prepares s d (Err r) → judge s ≡ refused (number r)
 unfolding Prepares
-told-refused s d r p n e = rw e at p
+told-refused s d r p = p
 
-pub told-ready : (s d : List ℕ) (r : Prepared) → Prepares s d r → (n start card size : ℕ)
-    → r ≡ preparing.Form n start card size → (l : List ℕ) × (judge s ≡ found l) × Ready s d l n start card size
+pub told-ready : (s d : List ℕ) (p : Prepared) → Prepares s d (Ok p)
+    → (l : List ℕ) × (judge s ≡ found l) × Ready s d l p.count p.start p.cardinality p.size
 unfolding Prepares
-told-ready s d r p n start card size e = rw e at p
+told-ready s d p r = r
 
 -- ---- the containers of few descriptors take few bytes
 pub tail-few : (s d l : List ℕ) (n start : ℕ) → SliceView s d n start l

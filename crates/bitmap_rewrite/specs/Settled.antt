@@ -1,5 +1,5 @@
 -- What settling does to the descriptors of a judged bitmap.
-use Rattle.std.specs.Prelude.{ℕ, ◌/◌, ◌≤◌, ◌<◌, min, ◌≡◌, List, ◌++◌, length, get_or, take, drop}
+use Rattle.std.specs.Prelude.{ℕ, ◌/◌, ◌≤◌, ◌<◌, min, ◌≡◌, List, ◌++◌, length, get_or, take, drop, Result, Ok, Err}
 use Rattle.common.specs.Outcome.{refused, found}
 use Rattle.bitmap_spec.specs.Judge.{judge}
 use Rattle.bitmap_spec.specs.Form.{form, write_chunks}
@@ -7,7 +7,8 @@ use Rattle.bitmap_laws.proofs.Round.{header}
 use Rattle.bitmap_laws.proofs.Values.{AllLe}
 use Rattle.form_write.specs.Described.{Trimmed}
 use Rattle.bitmap_rewrite.specs.declared.Prepared.{Prepared}
-use Rattle.bitmap_rewrite.specs.declared.Prepared.TheVariants as preparing
+use Rattle.common.specs.declared.Refusal.{Refusal}
+use Rattle.common.specs.Refusal.{number}
 
 -- the first n descriptors are at most 32, and the last ones of them that are 0 are dropped: m are left
 pub record Settled (d d' : List ℕ) (n m : ℕ) : Type 0 where
@@ -27,6 +28,6 @@ pub record Ready (s d l : List ℕ) (n start card size : ℕ) : Type 0 where
   pub whole : form l ≡ laid s start (take n d) card
   pub sized : size ≡ length (form l)
 
-unfoldable pub Prepares : List ℕ → List ℕ → Prepared → Type 0
-Prepares s d (preparing.Refused n) = judge s ≡ refused n
-Prepares s d (preparing.Form n start card size) = (l : List ℕ) × (judge s ≡ found l) × Ready s d l n start card size
+unfoldable pub Prepares : List ℕ → List ℕ → Result Prepared Refusal → Type 0
+Prepares s d (Err r) = judge s ≡ refused (number r)
+Prepares s d (Ok p) = (l : List ℕ) × (judge s ≡ found l) × Ready s d l p.count p.start p.cardinality p.size

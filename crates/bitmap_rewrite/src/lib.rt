@@ -7,18 +7,16 @@ ghost use Rattle.bitmap_spec.specs.Output.{written};
 ghost use Rattle.bitmap_laws.proofs.Values.{AllLe};
 ghost use Rattle.bitmap_rewrite.specs.Settled.{Settled, laid, Prepares};
 
-use judge::Judged;
+use common::Refusal;
 
-// A bitmap's refusal; or how many descriptors its form has, where its containers start, its cardinality, and the form's length.
+// A judged bitmap made ready for its form: how many descriptors the form has, where its containers start, its cardinality, and the
+// form's length.
 #[derive(Clone, Copy)]
-pub enum Prepared {
-    Refused(u32),
-    Form {
-        count: usize,
-        start: usize,
-        cardinality: u32,
-        size: usize,
-    },
+pub struct Prepared {
+    pub count: usize,
+    pub start: usize,
+    pub cardinality: u32,
+    pub size: usize,
 }
 
 // Makes each of the first n descriptors at most 32.
@@ -26,12 +24,10 @@ fn level(d: &mut [u8], n: usize)
     requires { n ≤ length d.old }
     ensures { (k : ℕ) → k < n → get_or d.new k 0 ≡ min (get_or d.old k 0) 32 }
 {
-    let mut i: usize = 0;
-    while i < n {
+    for i in 0..n {
         if 32 < d[i] {
             d[i] = 32;
         }
-        i += 1;
     }
 }
 
@@ -53,26 +49,18 @@ fn laid_size(s: &[u8], start: usize, d: &[u8], n: usize) -> usize
 }
 
 // Judges s and settles its descriptors, the first `count` bytes of d; the form has them, and the bytes of s from `start` on.
-pub fn prepare(s: &[u8], d: &mut [u8; 8192]) -> Prepared
+pub fn prepare(s: &[u8], d: &mut [u8; 8192]) -> Result<Prepared, Refusal>
     ensures { Prepares s.now d.new result }
 {
-    match judge::judge_into(s, d) {
-        Judged::Refused(r) => Prepared::Refused(r),
-        Judged::Accepted {
-            count,
-            start,
-            cardinality,
-        } => {
-            let m = settle(d, count);
-            let size = laid_size(s, start, d, m);
-            Prepared::Form {
-                count: m,
-                start,
-                cardinality,
-                size,
-            }
-        }
-    }
+    let judged = judge::judge_into(s, d)?;
+    let count = settle(d, judged.count);
+    let size = laid_size(s, judged.start, d, count);
+    Ok(Prepared {
+        count,
+        start: judged.start,
+        cardinality: judged.cardinality,
+        size,
+    })
 }
 
 // Writes the form of the judged bitmap s, whose settled descriptors are ds, from the start of out on.

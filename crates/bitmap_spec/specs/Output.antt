@@ -1,13 +1,13 @@
 -- What a call that writes a bitmap answers, and what it leaves in its output.
-use Rattle.std.specs.Prelude.{ℕ, ◌+◌, ◌≡◌, List, ◌++◌, length, take, drop, leb}
+use Rattle.std.specs.Prelude.{ℕ, ◌+◌, ◌≡◌, List, ◌++◌, length, take, drop, leb, Result}
 use Rattle.common.specs.Outcome.{Outcome, refused, found, then, need}
 use Rattle.common.specs.Lists.{rising}
+use Rattle.common.specs.Refusal.{outcome}
+use Rattle.common.specs.declared.Refusal.{Refusal}
 use Rattle.bitmap_spec.specs.Judge.{judge}
 use Rattle.bitmap_spec.specs.Form.{form}
 use Rattle.bitmap_spec.specs.Sets.{combine}
 use Rattle.bitmap_spec.specs.declared.Operation.{Operation}
-use Rattle.bitmap_spec.specs.declared.Written.{Written}
-use Rattle.bitmap_spec.specs.declared.Written.TheVariants.{Refused, Length}
 
 -- "room (13) is last": 13 where the form is longer than the room, else the form
 unfoldable pub placed : List ℕ → ℕ → Outcome (List ℕ)
@@ -26,19 +26,14 @@ unfoldable pub after : Outcome (List ℕ) → List ℕ → List ℕ
 after (refused n) before = before
 after (found w) before = w ++ drop (length w) before
 
--- the answer that the code's enum stands for
-abbrev pub said : Written → Outcome ℕ
-said (Refused n) = refused n
-said (Length n) = found n
-
 -- "the call gives the form's length"
 unfoldable pub length_of : Outcome (List ℕ) → Outcome ℕ
 length_of (refused n) = refused n
 length_of (found w) = found (length w)
 
 -- both at once: a call of outcome o answers r and turns the output before into rest
-pub record Gives (o : Outcome (List ℕ)) (before rest : List ℕ) (r : Written) : Type 0 where
-  pub says : said r ≡ length_of o
+pub record Gives (o : Outcome (List ℕ)) (before rest : List ℕ) (r : Result ℕ Refusal) : Type 0 where
+  pub says : outcome r ≡ length_of o
   pub holds : rest ≡ after o before
 
 -- the bytes l from at on, and all else as before: what a part of the writer leaves

@@ -31,15 +31,8 @@ pub enum Operation {
 }
 
 // Where a page listing stands between two calls: 01's place (the next position to look at) and finished mark.
-#[derive(Clone, Copy)]
+#[derive(Clone, Copy, Default)]
 pub struct Listing {
     pub place: u32,
     pub finished: bool,
-}
-
-// The answer of a call that writes a bitmap: the refusal's number, or how many bytes the form takes.
-#[derive(Clone, Copy)]
-pub enum Written {
-    Refused(u32),
-    Length(usize),
 }

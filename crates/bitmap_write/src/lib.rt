@@ -10,16 +10,14 @@ ghost use Rattle.blocks.specs.Block.{block};
 ghost use Rattle.form_write.specs.Described.{descs_to, Describes};
 ghost use Rattle.bitmap_write.specs.Run.{Ends, run};
 
-use bitmap_spec::Written;
+use common::Refusal;
 
 // Whether the positions are strictly rising, and none is too large.
 fn rises(ps: &[u32]) -> bool
     ensures { result ≡ rising 2097152 0 ps.now }
 {
     let mut lo: u32 = 0;
-    let mut i: usize = 0;
-    while i < ps.len() {
-        let x = ps[i];
+    for &x in ps {
         if x < lo {
             return false;
         }
@@ -27,7 +25,6 @@ fn rises(ps: &[u32]) -> bool
             return false;
         }
         lo = x + 1;
-        i += 1;
     }
     true
 }
@@ -38,6 +35,7 @@ fn run_end(ps: &[u32], i: usize, b: u32) -> usize
     ensures { Ends ps.now i b result }
 {
     let mut j = i;
+    // a `for` costs a cycle more for each container
     while j < ps.len() {
         if b <= ps[j] {
             return j;
@@ -76,12 +74,10 @@ fn describe(ps: &[u32], ds: &mut [u8]) -> usize
 {
     let n = count_of(ps);
     let mut i: usize = 0;
-    let mut k: usize = 0;
-    while k < n {
+    for k in 0..n {
         let j = run_end(ps, i, ((k + 1) * 256) as u32);
         ds[k] = descriptor(j - i);
         i = j;
-        k += 1;
     }
     n
 }
@@ -92,10 +88,8 @@ fn put_low(ps: &[u32], i: usize, j: usize, out: &mut [u8], at: usize) -> usize
     ensures { (result ≡ j - i) × (out.new ≡ written out.old at (run ps.now i j)) }
 {
     let n = j - i;
-    let mut t: usize = 0;
-    while t < n {
+    for t in 0..n {
         out[at + t] = (ps[i + t] % 256) as u8;
-        t += 1;
     }
     n
 }
@@ -107,12 +101,10 @@ fn run_block(ps: &[u32], i: usize, j: usize) -> [u8; 32]
 {
     let mut b = [0u8; 32];
     let n = j - i;
-    let mut t: usize = 0;
-    while t < n {
+    for t in 0..n {
         let x = (ps[i + t] % 256) as u8;
         let q = (x / 8) as usize;
         b[q] = b[q] | (128 >> (x % 8));
-        t += 1;
     }
     b
 }
@@ -135,38 +127,36 @@ fn put_runs(ps: &[u32], n: usize, out: &mut [u8], at: usize) -> usize
 {
     let mut t: usize = 0;
     let mut i: usize = 0;
-    let mut k: usize = 0;
-    while k < n {
+    for k in 0..n {
         let j = run_end(ps, i, ((k + 1) * 256) as u32);
         t += put_run(ps, i, j, out, at + t);
         i = j;
-        k += 1;
     }
     t
 }
 
 // Writes the form of the positions whose descriptors are ds, or refuses for room.
-fn put_form(ps: &[u32], ds: &[u8], out: &mut [u8]) -> Written
+fn put_form(ps: &[u32], ds: &[u8], out: &mut [u8]) -> Result<usize, Refusal>
     requires { Describes ps.now (length ds.now) (length ps.now) ds.now }
     ensures { Gives (placed (form ps.now) (length out.old)) out.old out.new result }
 {
     let len = form_write::form_size(ds);
     if out.len() < len {
-        return Written::Refused(13);
+        return Err(Refusal::Room);
     }
     let at = form_write::put_head(ds, ps.len() as u32, out);
     put_runs(ps, ds.len(), out, at);
-    Written::Length(len)
+    Ok(len)
 }
 
 // Writes the form of the listed positions: its length, with the form first in the output and the rest as it was.
-// Refuses 12 for a list that is not strictly rising or has a position over 2,097,151, then 13 for a form longer than the output;
-// a refusal leaves the output as it was.
-pub fn write_list(ps: &[u32], out: &mut [u8]) -> Written
+// Refuses a list that is not strictly rising or has a position over 2,097,151, then a form longer than the output; a
+// refusal leaves the output as it was.
+pub fn write_list(ps: &[u32], out: &mut [u8]) -> Result<usize, Refusal>
     ensures { Gives (write ps.now (length out.old)) out.old out.new result }
 {
     if !rises(ps) {
-        return Written::Refused(12);
+        return Err(Refusal::Positions);
     }
     let mut ds = [0u8; 8192];
     let n = describe(ps, &mut ds);

@@ -17,10 +17,8 @@ fn ones_of(s: &[u8], at: usize, n: usize) -> u32
     ensures { (result ≡ tally (bit s.now) (at * 8) (n * 8)) × (result ≤ n * 8) }
 {
     let mut ones: u32 = 0;
-    let mut i: usize = 0;
-    while i < n {
+    for i in 0..n {
         ones += u8::count_ones(s[at + i]);
-        i += 1;
     }
     ones
 }

@@ -13,7 +13,8 @@ use native.Mathlib.Omega.{arith}
 use borrow.Author.Tests.{eq-eqb, ne_eqb, lt-ltb, le-ltb}
 use lib.Dec.{eqb}
 use lib.ListN.{length, get_or, set, take, drop, replicate, length-set, length-drop, get_or-eq_default}
-use lib.Seq.{get_or-set_same, get_or-set_other, get_or-drop, take-suc, length-take-le}
+use borrow.Rule.Slice.PartMut.{put_mid}
+use lib.Seq.{drop-drop, get_or-set_same, get_or-set_other, get_or-drop, take-suc, length-take-le}
 use lib.Pow.{pow-add, pow-lt, pow_pos, shl-shr}
 use lib.Bits.{bit_or, or_shr, or_mod, or_zero_r, or_lt}
 use Rattle.common.specs.Lists.{mem, keep, from}
@@ -143,14 +144,20 @@ shows_more b l i h g k = record {
     push false b = refl
 
     small : (q : ℕ) → Dec (q ≡ get_or l i 0 / 8)
-        → get_or (set b (get_or l i 0 / 8) (bit_or (get_or b (get_or l i 0 / 8) 0) (2 ^ (7 - get_or l i 0 % 8)))) q 0 < 256
+        → get_or (set b (get_or l i 0 / 8) (bit_or (get_or b (get_or l i 0 / 8) 0) (2 ^ (7 - get_or l i 0 % 8)))) q
+        0 < 256
     small q (yes e) =
-        rw (e, get_or-set_same b (get_or l i 0 / 8) (bit_or (get_or b (get_or l i 0 / 8) 0) (2 ^ (7 - get_or l i 0 % 8))) 0 at)
+        rw (
+          e,
+          get_or-set_same b (get_or l i 0 / 8) (bit_or (get_or b (get_or l i 0 / 8) 0)
+              (2 ^ (7 - get_or l i 0 % 8))) 0 at,
+        )
         (or_lt
         8 (get_or b (get_or l i 0 / 8) 0) (2 ^ (7 - get_or l i 0 % 8)) (h.small (get_or l i 0 / 8))
         (pow-lt {i = 7 - get_or l i 0 % 8} {j = 8} (omega arith)))
     small q (no e) =
-        rw (get_or-set_other b (get_or l i 0 / 8) q (bit_or (get_or b (get_or l i 0 / 8) 0) (2 ^ (7 - get_or l i 0 % 8))) 0 e)
+        rw (get_or-set_other b (get_or l i 0 / 8) q (bit_or (get_or b (get_or l i 0 / 8) 0)
+        (2 ^ (7 - get_or l i 0 % 8))) 0 e)
         (h.small q)
 
 pub from-top : (k : ℕ) → k < 8 → 128 / 2 ^ k ≡ 2 ^ (7 - k)
@@ -169,7 +176,8 @@ load-none = shows-none (replicate 32 0) refl (zeros 32)
 pub load-more : (b s : List ℕ) (at i : ℕ) → Shows b (λ p. mem p (take i (drop at s))) → at + i < length s
     → get_or s (at + i) 0 < 256
     → Shows
-    (set b (get_or s (at + i) 0 / 8) (bit_or (get_or b (get_or s (at + i) 0 / 8) 0) (128 / 2 ^ (get_or s (at + i) 0 % 8))))
+    (set b (get_or s (at + i) 0 / 8) (bit_or (get_or b (get_or s (at + i) 0 / 8) 0)
+    (128 / 2 ^ (get_or s (at + i) 0 % 8))))
     (λ p. mem p (take (i + 1) (drop at s)))
 load-more b s at i h g k =
     let e : get_or (drop at s) i 0 ≡ get_or s (at + i) 0 = get_or-drop at s i 0 in
@@ -228,8 +236,14 @@ copy-turn b before out at i x h room e q =
     let m = rw n at (written-more before (take i b) at x (rw n (omega arith))) in
     ap (λ (o : List ℕ). set o (at + i) x) q ∙ m ∙ rw (add-one i, take-suc b i 0 (omega arith), e)
 
+-- a part overwritten by l
+pub put-part : (out l l' : List ℕ) (to k : ℕ) → l' ≡ l → k ≡ length l → put_mid to k out l' ≡ written out to l
+unfolding written
+put-part out l l' to k e n = rw (e, n, drop-drop (length l) to out)
+
 -- ---- the container of a block
-pub block-sparse : (b : List ℕ) (d : ℕ) → d ≡ descriptor_of (dense b 0) → d < 32 → dense b 0 ≡ write_container (dense b 0)
+pub block-sparse : (b : List ℕ) (d : ℕ) → d ≡ descriptor_of (dense b 0) → d < 32
+    → dense b 0 ≡ write_container (dense b 0)
 unfolding descriptor_of write_container
 block-sparse b d e h = sym (rw (lt-ltb (length (dense b 0)) 32 (omega arith)))
 

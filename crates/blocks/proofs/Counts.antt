@@ -21,7 +21,7 @@ use Rattle.bitmap_spec.specs.declared.Operation.TheVariants.{Intersection, Diffe
 use Rattle.bitmap_spec.proofs.Window.{below_or}
 use Rattle.bitmap_laws.proofs.Containers.{keep_same}
 use Rattle.bits.proofs.Words.{four-words}
-use Rattle.blocks.specs.Block.{mask, mix, on_first, on_second, on_both, joined_bytes, joins, without}
+use Rattle.blocks.specs.Block.{mask, mix, on_first, on_second, on_both, joined_bytes, joins, without, Counted}
 use Rattle.blocks.proofs.Digits.{joined_at, joined-bit, joined_length, mix-lt}
 
 mask-small : (b : Bool) → mask b < 256
@@ -98,6 +98,13 @@ module _ (o : Operation) (a : List ℕ) (at : ℕ) (b : List ℕ) (bt : ℕ) (sa
         (four-words (Made o a at b bt) small 0 ∙ members)
 
 -- ---- the operations
+pub counted : (op : ℕ → ℕ → ℕ) (a : List ℕ) (at : ℕ) (b : List ℕ) (bt n : ℕ)
+    → Counted (λ x y r. r ≡ op x y) a at b bt n
+    → n ≡ ones (op (little_at a at 8) (little_at b bt 8)) + ones (op (little_at a (at + 8) 8) (little_at b (bt + 8) 8))
+    + ones (op (little_at a (at + 16) 8) (little_at b (bt + 16) 8))
+    + ones (op (little_at a (at + 24) 8) (little_at b (bt + 24) 8))
+counted op a at b bt n c = rw (← c.4, ← c.5, ← c.6, ← c.7) c.8
+
 full : (x : ℕ) → x < 256 → bit_and x 255 ≡ x
 full x h = and_mask x 8 ∙ omega arith
 

@@ -3,9 +3,6 @@
 // A container as a block of 32 bytes whose bits are its members: loaded, joined, counted, written. Inner: no entry
 // point.
 ghost use Rattle.std.specs.Prelude.{◌≡◌, ℕ, ◌+◌, ◌*◌, ◌≤◌, ◌<◌, length, get_or, take, drop};
-ghost use Rattle.std.specs.Int.Bits.{bit_and, bit_xor};
-ghost use Rattle.std.specs.Int.Count.{ones};
-ghost use Rattle.common.specs.Bytes.{little_at};
 ghost use Rattle.common.specs.Lists.{mem, keep, from};
 ghost use Rattle.bitmap_spec.specs.Bits.{bit, packed};
 ghost use Rattle.bitmap_spec.specs.Judge.{dense};
@@ -13,7 +10,7 @@ ghost use Rattle.bitmap_spec.specs.Form.{descriptor_of, write_container};
 ghost use Rattle.bitmap_spec.specs.Output.{written};
 ghost use Rattle.bitmap_spec.proofs.Tally.{tally};
 ghost use Rattle.bitmap_spec.specs.declared.Operation.TheVariants.{Intersection, Difference, SymmetricDifference};
-ghost use Rattle.blocks.specs.Block.{block, mask, on_first, on_second, on_both, joined_bytes, joins, without, is_on, word_members};
+ghost use Rattle.blocks.specs.Block.{block, mask, on_first, on_second, on_both, joined_bytes, joins, Counted, is_on, word_members};
 
 use bitmap_spec::Operation;
 use words::low_word;
@@ -24,12 +21,10 @@ pub fn load_sparse(s: &[u8], at: usize, n: usize) -> [u8; 32]
     ensures { result ≡ block (λ p. mem p (take n (drop at s.now))) }
 {
     let mut b = [0u8; 32];
-    let mut i: usize = 0;
-    while i < n {
+    for i in 0..n {
         let x = s[at + i];
         let q = (x / 8) as usize;
         b[q] = b[q] | (128 >> (x % 8));
-        i += 1;
     }
     b
 }
@@ -89,19 +84,16 @@ fn join16(
 {
     let mut v = [0u8; 16];
     let mut ones: u8 = 0;
-    let mut i: usize = 0;
-    while i < 16 {
+    for i in 0..16 {
         let x = a[at + i];
         let y = b[bt + i];
         let z = (x & p) ^ (y & q) ^ (x & y & w);
         v[i] = z;
         ones += u8::count_ones(z) as u8;
-        i += 1;
     }
-    let mut j: usize = 0;
-    while j < 16 {
+    // in a loop: `copy_from_slice` would keep the array in memory
+    for j in 0..16 {
         out[to + j] = v[j];
-        j += 1;
     }
     ones
 }
@@ -135,12 +127,17 @@ pub fn join(
     x as u32 + y as u32
 }
 
-// How many bits are set in both of the words of a at `at` and of b at `bt`.
-fn and_ones(a: &[u8], at: usize, b: &[u8], bt: usize) -> u32
-    requires { (at + 8 ≤ length a.now) × (bt + 8 ≤ length b.now) }
-    ensures { (result ≡ ones (bit_and (little_at a.now at 8) (little_at b.now bt 8))) × (result ≤ 64) }
+// How many bits are set in what f makes of the four words of a from `at` on and those of b from `bt` on. Written out, so
+// that the back end counts word by word with no loop.
+fn count_by<F: Fn(u64, u64) -> u64>(a: &[u8], at: usize, b: &[u8], bt: usize, f: F) -> u32
+    requires callable { F.IsAlwaysCallable f }
+    requires room { (at + 32 ≤ length a.now) × (bt + 32 ≤ length b.now) }
+    ensures { Counted (F.post f) a.now at b.now bt result }
 {
-    u64::count_ones(low_word(a, at) & low_word(b, bt))
+    u64::count_ones(f(low_word(a, at), low_word(b, bt)))
+        + u64::count_ones(f(low_word(a, at + 8), low_word(b, bt + 8)))
+        + u64::count_ones(f(low_word(a, at + 16), low_word(b, bt + 16)))
+        + u64::count_ones(f(low_word(a, at + 24), low_word(b, bt + 24)))
 }
 
 // How many members are in both of the blocks at `at` and at `bt`.
@@ -148,19 +145,7 @@ pub fn and_count(a: &[u8], at: usize, b: &[u8], bt: usize) -> u32
     requires { (at + 32 ≤ length a.now) × (bt + 32 ≤ length b.now) }
     ensures { result ≡ length (keep (joins Intersection a.now at b.now bt) (from 0 256)) }
 {
-    and_ones(a, at, b, bt)
-        + and_ones(a, at + 8, b, bt + 8)
-        + and_ones(a, at + 16, b, bt + 16)
-        + and_ones(a, at + 24, b, bt + 24)
-}
-
-// How many bits are set in the word of a at `at` and not in that of b at `bt`.
-fn without_ones(a: &[u8], at: usize, b: &[u8], bt: usize) -> u32
-    requires { (at + 8 ≤ length a.now) × (bt + 8 ≤ length b.now) }
-    ensures { (result ≡ ones (without (little_at a.now at 8) (little_at b.now bt 8))) × (result ≤ 64) }
-{
-    let x = low_word(a, at);
-    u64::count_ones(x ^ (x & low_word(b, bt)))
+    count_by(a, at, b, bt, |x, y| x & y)
 }
 
 // How many members are in the block at `at` and not in that at `bt`.
@@ -168,18 +153,7 @@ pub fn without_count(a: &[u8], at: usize, b: &[u8], bt: usize) -> u32
     requires { (at + 32 ≤ length a.now) × (bt + 32 ≤ length b.now) }
     ensures { result ≡ length (keep (joins Difference a.now at b.now bt) (from 0 256)) }
 {
-    without_ones(a, at, b, bt)
-        + without_ones(a, at + 8, b, bt + 8)
-        + without_ones(a, at + 16, b, bt + 16)
-        + without_ones(a, at + 24, b, bt + 24)
-}
-
-// How many bits are set in one of the words of a at `at` and of b at `bt`.
-fn xor_ones(a: &[u8], at: usize, b: &[u8], bt: usize) -> u32
-    requires { (at + 8 ≤ length a.now) × (bt + 8 ≤ length b.now) }
-    ensures { (result ≡ ones (bit_xor (little_at a.now at 8) (little_at b.now bt 8))) × (result ≤ 64) }
-{
-    u64::count_ones(low_word(a, at) ^ low_word(b, bt))
+    count_by(a, at, b, bt, |x, y| x ^ (x & y))
 }
 
 // How many members are in one of the blocks at `at` and at `bt`.
@@ -187,10 +161,7 @@ pub fn xor_count(a: &[u8], at: usize, b: &[u8], bt: usize) -> u32
     requires { (at + 32 ≤ length a.now) × (bt + 32 ≤ length b.now) }
     ensures { result ≡ length (keep (joins SymmetricDifference a.now at b.now bt) (from 0 256)) }
 {
-    xor_ones(a, at, b, bt)
-        + xor_ones(a, at + 8, b, bt + 8)
-        + xor_ones(a, at + 16, b, bt + 16)
-        + xor_ones(a, at + 24, b, bt + 24)
+    count_by(a, at, b, bt, |x, y| x ^ y)
 }
 
 // The 64 bits from byte `at` on as a number, the first byte the highest.
@@ -199,10 +170,8 @@ fn word(s: &[u8], at: usize) -> u64
     ensures { result ≡ packed (bit s.now) (at * 8) 64 }
 {
     let mut v: u64 = 0;
-    let mut i: usize = 0;
-    while i < 8 {
+    for i in 0..8 {
         v = v * 256 + s[at + i] as u64;
-        i += 1;
     }
     v
 }
@@ -242,10 +211,8 @@ fn put_members(ws: [u64; 4], out: &mut [u8], at: usize) -> usize
     ensures { (result ≡ length (word_members ws)) × (out.new ≡ written out.old at (word_members ws)) }
 {
     let mut n: usize = 0;
-    let mut q: usize = 0;
-    while q < 4 {
+    for q in 0..4 {
         n += put_word(ws, q, out, at + n);
-        q += 1;
     }
     n
 }
@@ -259,19 +226,6 @@ pub fn spread(out: &mut [u8], at: usize) -> usize
     put_members(ws, out, at)
 }
 
-// Writes the 32 bytes of a block from out[at] on.
-fn put_bytes(b: [u8; 32], out: &mut [u8], at: usize) -> usize
-    requires { at + 32 ≤ length out.old }
-    ensures { (result ≡ 32) × (out.new ≡ written out.old at b) }
-{
-    let mut i: usize = 0;
-    while i < 32 {
-        out[at + i] = b[i];
-        i += 1;
-    }
-    32
-}
-
 // Writes the container of a block, whose descriptor is d, from out[at] on, and says how many bytes it takes.
 pub fn put_block(b: [u8; 32], d: u8, out: &mut [u8], at: usize) -> usize
     requires { (d ≡ descriptor_of (dense b 0)) × (at + length (write_container (dense b 0)) ≤ length out.old) }
@@ -280,5 +234,6 @@ pub fn put_block(b: [u8; 32], d: u8, out: &mut [u8], at: usize) -> usize
     if d < 32 {
         return put_members(words(&b, 0), out, at);
     }
-    put_bytes(b, out, at)
+    out[at..at + 32].copy_from_slice(&b);
+    32
 }

@@ -12,9 +12,11 @@ use Rattle.common.specs.Lists.{from, every}
 use Rattle.common.specs.Bytes.{ceil8, low_bit, low_bits, low_count}
 use Rattle.common.proofs.Lists.{both_left, both_right, every-each}
 use Rattle.common.proofs.Outcomes.{clash}
-use Rattle.row_spec.specs.Varint.{varint_at, on_varint}
+use Rattle.row_spec.specs.Varint.{varint, varint_at, on_varint}
 use Rattle.row_spec.specs.declared.Varint.{Varint}
-use Rattle.row_spec.specs.declared.Varint.TheVariants as varint
+use Rattle.std.specs.Prelude.{Result, Ok, Err}
+use Rattle.row_spec.specs.declared.ReadFault.{ReadFault}
+use Rattle.row_spec.specs.declared.ReadFault.TheVariants.{CutShort, IllFormed}
 use Rattle.row_spec.specs.declared.Column.{Column}
 use Rattle.row_spec.specs.declared.ColumnType.{ColumnType}
 use Rattle.row_spec.specs.declared.Field.{Field}
@@ -28,7 +30,7 @@ pub record Table (s : List ℕ) (t : ColumnType) (table : ℕ) : Type 0 where
   pub entries : ℕ
   pub first : ℕ
   pub short : Bool
-  pub count : varint_at s table ≡ varint.Number entries first short
+  pub count : varint_at s table ≡ Ok (varint entries first short)
   pub least : 2 ≤ entries
   pub most : entries ≤ 255
   pub end : ℕ
@@ -43,17 +45,18 @@ table_is : (s : List ℕ) (t : ColumnType) (at next : ℕ) → table_of s t (var
 unfolding table_of
 table_is s t at next h = by_count (varint_at s at) refl h
   where
-    by_count : (r : Varint) → varint_at s at ≡ r
+    by_count : (r : Result Varint ReadFault) → varint_at s at ≡ r
         → on_varint r (refused 31) (refused 32) (λ e first. need (both (leb 2 e) (leb e 255)) 33 (values s t e first))
         ≡ found next → Table s t at
-    by_count varint.CutShort p q = clash (cc)
-    by_count varint.IllFormed p q = clash (cc)
-    by_count (varint.Number e first short) p q =
-        let k = need-found (both (leb 2 e) (leb e 255)) 33 (values s t e first) next q in
+    by_count (Err CutShort) p q = clash (cc)
+    by_count (Err IllFormed) p q = clash (cc)
+    by_count (Ok x) p q =
+        let e = x.number in
+        let k = need-found (both (leb 2 e) (leb e 255)) 33 (values s t e x.next) next q in
         record {
           entries = e;
-          first = first;
-          short = short;
+          first = x.next;
+          short = x.shortest;
           count = p;
           least = leb-true 2 e (both_left (leb 2 e) (leb e 255) k.0);
           most = leb-true e 255 (both_right (leb 2 e) (leb e 255) k.0);
@@ -116,7 +119,7 @@ module _ (s : List ℕ) (t : ColumnType) (tag : ℕ) (mapped : Bool) (r const ta
   unfolding value_of
   value-plain q h = rw q h
 
-  pub value-dict : tag ≡ 2 → (e first : ℕ) (short : Bool) → varint_at s table ≡ varint.Number e first short
+  pub value-dict : tag ≡ 2 → (e first : ℕ) (short : Bool) → varint_at s table ≡ Ok (varint e first short)
       → nth s t first (low_bits s cells (live s mapped nulls r * index_width e) (index_width e)) ≡ found f
       → value_of s t tag mapped r const table nulls cells ≡ found f
   unfolding value_of entry_of

@@ -7,29 +7,30 @@ use Prim.Native.Nat.{ℕ, zero, suc, ◌<◌}
 use native.Mathlib.Nat.{not-suc-le-zero, le_of_suc-le-suc}
 use Rattle.common.specs.Outcome.{refused, found}
 use Rattle.common.proofs.Outcomes.{clash, same-found, then_found}
-use Rattle.row_spec.specs.Value.{value_at, on_value}
+use Rattle.row_spec.specs.Value.{Value, value_at, on_value}
 use Rattle.row_spec.specs.declared.ColumnType.{ColumnType}
 use Rattle.row_spec.specs.declared.Field.{Field}
-use Rattle.row_spec.specs.declared.Value.{Value}
-use Rattle.row_spec.specs.declared.Value.TheVariants.{Read, CutShort, Bad}
+use Rattle.row_spec.specs.Read.{read}
+use Rattle.std.specs.Prelude.{Ok, Err}
+use Rattle.row_spec.specs.declared.ReadFault.TheVariants.{CutShort, IllFormed}
 use Rattle.bucket_spec.specs.Piece.{values, here_of, nth}
 use Rattle.bucket_laws.specs.Shown.{Among}
 
 module _ (s : List ℕ) (t : ColumnType) where
   -- one value, then the rest
   values-read : (m at end : ℕ) → values s t (suc m) at ≡ found end
-      → (f : Field) × ((next : ℕ) × ((value_at true s at t ≡ Read f next) × (values s t m next ≡ found end)))
+      → (f : Field) × ((next : ℕ) × ((value_at true s at t ≡ Ok (read f next)) × (values s t m next ≡ found end)))
   unfolding values
   values-read m at end e = by_value (value_at true s at t) refl e
     where
       by_value : (v : Value) → value_at true s at t ≡ v
           → on_value v (refused 31) (refused 32) (λ f next. values s t m next) ≡ found end
-          → (f : Field) × ((next : ℕ) × ((value_at true s at t ≡ Read f next) × (values s t m next ≡ found end)))
-      by_value CutShort p q = clash (cc)
-      by_value Bad p q = clash (cc)
-      by_value (Read f next) p q = (f, (next, (p, q)))
+          → (f : Field) × ((next : ℕ) × ((value_at true s at t ≡ Ok (read f next)) × (values s t m next ≡ found end)))
+      by_value (Err CutShort) p q = clash (cc)
+      by_value (Err IllFormed) p q = clash (cc)
+      by_value (Ok x) p q = (x.value, (x.next, (p, q)))
 
-  values_one : (m at : ℕ) (f : Field) (next : ℕ) → value_at true s at t ≡ Read f next
+  values_one : (m at : ℕ) (f : Field) (next : ℕ) → value_at true s at t ≡ Ok (read f next)
       → values s t (suc m) at ≡ values s t m next
   unfolding values
   values_one m at f next p = rw p
@@ -39,7 +40,7 @@ module _ (s : List ℕ) (t : ColumnType) where
   values-none at = refl
 
   split : (m j at end : ℕ) → j < m → values s t m at ≡ found end
-      → (p : ℕ) × ((values s t j at ≡ found p) × ((f : Field) × ((next : ℕ) × (value_at true s p t ≡ Read f next))))
+      → (p : ℕ) × ((values s t j at ≡ found p) × ((f : Field) × ((next : ℕ) × (value_at true s p t ≡ Ok (read f next)))))
   split zero j at end h e = absurd (not-suc-le-zero h)
   split (suc m) zero at end h e =
       let x = values-read m at end e in
@@ -71,7 +72,7 @@ module _ (s : List ℕ) (t : ColumnType) where
   run-nth m j at f a = rw (a.before, a.reads)
 
   -- one value more, where those before it end
-  values-more : (j at p : ℕ) (f : Field) (next : ℕ) → values s t j at ≡ found p → value_at true s p t ≡ Read f next
+  values-more : (j at p : ℕ) (f : Field) (next : ℕ) → values s t j at ≡ found p → value_at true s p t ≡ Ok (read f next)
       → values s t (suc j) at ≡ found next
   values-more zero at p f next e r =
       let here : at ≡ p = same-found (sym (values-none at) ∙ e) in
@@ -85,7 +86,7 @@ module _ (s : List ℕ) (t : ColumnType) where
     pub place : ℕ
     pub next : ℕ
     pub before : values s t j at ≡ found place
-    pub reads : value_at true s place t ≡ Read f next
+    pub reads : value_at true s place t ≡ Ok (read f next)
     pub more : values s t (suc j) at ≡ found next
 
   pub nth-stands : (at j : ℕ) (f : Field) → nth s t at j ≡ found f → Stands at j f
@@ -96,8 +97,9 @@ module _ (s : List ℕ) (t : ColumnType) where
     where
       by_value : (p : ℕ) → values s t j at ≡ found p → (v : Value) → value_at true s p t ≡ v
           → on_value v (refused 31) (refused 32) (λ g next. found g) ≡ found f → Stands at j f
-      by_value p b CutShort r q = clash (cc)
-      by_value p b Bad r q = clash (cc)
-      by_value p b (Read g next) r q =
-          let reads : value_at true s p t ≡ Read f next = r ∙ ap (λ (h : Field). Read h next) (same-found q) in
-          record { place = p; next = next; before = b; reads = reads; more = values-more j at p f next b reads }
+      by_value p b (Err CutShort) r q = clash (cc)
+      by_value p b (Err IllFormed) r q = clash (cc)
+      by_value p b (Ok x) r q =
+          let reads : value_at true s p t ≡ Ok (read f x.next) =
+          r ∙ ap (λ (h : Field). Ok (read h x.next)) (same-found q) in
+          record { place = p; next = x.next; before = b; reads = reads; more = values-more j at p f x.next b reads }

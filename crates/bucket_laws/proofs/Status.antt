@@ -13,7 +13,9 @@ use Rattle.common.proofs.Outcomes.{told-numbered, zero-found, then_found}
 use Rattle.row_spec.specs.Varint.{varint_at}
 use Rattle.row_spec.specs.Schema.{schema}
 use Rattle.row_spec.specs.Value.{value_at}
+use Rattle.std.specs.Prelude.{Result}
 use Rattle.row_spec.specs.declared.Varint.{Varint}
+use Rattle.row_spec.specs.declared.ReadFault.{ReadFault}
 use Rattle.row_spec.specs.declared.Column.{Column}
 use Rattle.row_spec.specs.declared.ColumnType.{ColumnType}
 use Rattle.row_spec.specs.declared.Field.{Field}
@@ -21,7 +23,8 @@ use Rattle.row_spec.specs.declared.Field.TheVariants.{Null}
 use Rattle.row_laws.proofs.Status.{schema-numbered, on-varint-numbered, on-value-numbered}
 use Rattle.bucket_spec.specs.Piece.{values, here_of, nth, table_of, const_piece}
 use Rattle.bucket_spec.specs.Piece.{table_piece, nulls_piece, live, indexes, data_piece, piece, entry_of, value_of}
-use Rattle.bucket_spec.specs.Bucket.{Judged, Layout, along, piece_of, parts, body, is_null, answer, head_number, tags_at}
+use Rattle.bucket_spec.specs.Bucket.{Judged, Layout, along, piece_of, parts, body, is_null, answer, head_number}
+use Rattle.bucket_spec.specs.Bucket.{tags_at}
 use Rattle.bucket_spec.specs.Bucket.{bucket, bucket_refusal, bucket_field}
 use Rattle.bucket_spec.specs.Page.{answers, column, bucket_page}
 
@@ -59,7 +62,7 @@ module _ (s : List ℕ) (t : ColumnType) where
   unfolding const_piece
   const-numbered tag at = pick-numbered (eqb tag 1) _ _ (values-numbered 1 at) (found-numbered at)
 
-  table-of-numbered : (r : Varint) → Numbered (table_of s t r)
+  table-of-numbered : (r : Result Varint ReadFault) → Numbered (table_of s t r)
   unfolding table_of
   table-of-numbered r =
       on-varint-numbered r _ _ _ (λ e next.
@@ -127,7 +130,7 @@ module _ (cols : List Column) (n : ℕ) (s : List ℕ) where
         need-numbered _ _ _ (pick-numbered (is_null cols n s tags has l r i) _ _ (found-numbered Null)
         (value-numbered s _ _ _ _ _ _ _ _))
 
-  head-numbered : (k : ℕ) (r : Varint) → Numbered (head_number k r)
+  head-numbered : (k : ℕ) (r : Result Varint ReadFault) → Numbered (head_number k r)
   unfolding head_number
   head-numbered k r =
       on-varint-numbered r _ _ _ (λ m next. need-numbered _ _ _ (found-numbered next))

@@ -6,15 +6,17 @@ use mathlib.Core.List.{List}
 use Prim.Native.Nat.{ℕ}
 use lib.ListN.{length}
 use Rattle.common.specs.Outcome.{Outcome, refused, found}
-use Rattle.row_spec.specs.Answer.{after, field_outcome, inside}
+use Rattle.std.specs.Prelude.{Result}
+use Rattle.common.specs.Refusal.{outcome}
+use Rattle.common.specs.declared.Refusal.{Refusal}
+use Rattle.row_spec.specs.Answer.{after, inside}
 use Rattle.row_spec.specs.declared.Field.{Field}
-use Rattle.row_spec.specs.declared.FieldAnswer.{FieldAnswer}
 use Rattle.bucket_spec.specs.Bucket.{bucket_field}
 use Rattle.bucket_laws.proofs.Answered.{stored}
 
-pub place-within : (d : List ℕ) (n : ℕ) (s : List ℕ) (r i : ℕ) (a : FieldAnswer)
-    → field_outcome a ≡ bucket_field d n s r i
-    → after (field_outcome a) (inside (length s)) true ≡ true
+pub place-within : (d : List ℕ) (n : ℕ) (s : List ℕ) (r i : ℕ) (a : Result Field Refusal)
+    → outcome a ≡ bucket_field d n s r i
+    → after (outcome a) (inside (length s)) true ≡ true
 place-within d n s r i a e = rw e (by-case (bucket_field d n s r i) refl)
   where
     by-case : (o : Outcome Field) → bucket_field d n s r i ≡ o → after o (inside (length s)) true ≡ true

@@ -1,17 +1,16 @@
 -- What an accepted bucket shows at a row and a column that it has.
-use Rattle.std.specs.Prelude.{ℕ, suc, ◌+◌, ◌*◌, ◌^◌, ◌≤◌, ◌<◌, ◌≡◌, ◌⊎◌, Bool, true, List, length, get_or}
+use Rattle.std.specs.Prelude.{ℕ, suc, ◌+◌, ◌*◌, ◌^◌, ◌≤◌, ◌<◌, ◌≡◌, ◌⊎◌, Ok, Bool, true, List, length, get_or}
 use Rattle.common.specs.Outcome.{Outcome, found}
 use Rattle.common.specs.Bytes.{ceil8, low_bit, low_bits}
-use Rattle.row_spec.specs.Varint.{varint_at}
+use Rattle.row_spec.specs.Varint.{varint, varint_at}
 use Rattle.row_spec.specs.Schema.{schema, blank_column}
+use Rattle.row_spec.specs.Read.{read}
 use Rattle.row_spec.specs.Value.{value_at}
 use Rattle.row_spec.specs.Answer.{inside}
-use Rattle.row_spec.specs.declared.Varint.TheVariants.{Number}
 use Rattle.row_spec.specs.declared.Column.{Column}
 use Rattle.row_spec.specs.declared.ColumnType.{ColumnType}
 use Rattle.row_spec.specs.declared.Field.{Field}
 use Rattle.row_spec.specs.declared.Field.TheVariants.{Null}
-use Rattle.row_spec.specs.declared.Value.TheVariants.{Read}
 use Rattle.bucket_spec.specs.Piece.{values, index_width, live}
 use Rattle.bucket_spec.specs.Bucket.{Judged, mapped, answer, bucket}
 
@@ -23,7 +22,7 @@ pub record Among (s : List ℕ) (t : ColumnType) (at m j : ℕ) (f : Field) : Ty
   pub place : ℕ
   pub before : values s t j at ≡ found place
   pub next : ℕ
-  pub reads : value_at true s place t ≡ Read f next
+  pub reads : value_at true s place t ≡ Ok (read f next)
 
 -- "ceil(log2(e))": the least w for which 2^w is not below e
 pub record CeilLog (e w : ℕ) : Type 0 where
@@ -37,7 +36,7 @@ pub record Entry (s : List ℕ) (t : ColumnType) (table cells m j : ℕ) (f : Fi
   pub first : ℕ
   -- whether the number is shortest is free
   pub short : Bool
-  pub count : varint_at s table ≡ Number entries first short
+  pub count : varint_at s table ≡ Ok (varint entries first short)
   pub least : 2 ≤ entries
   pub most : entries ≤ 255
   pub width : CeilLog entries (index_width entries)

@@ -2,13 +2,14 @@
 -- holds lists those of which more holds.
 -- Assumes nothing.
 use mathlib.Core.Path.{◌≡◌, refl, sym, ap, ◌∙◌}
-use mathlib.Core.List.{List, [], ◌∷◌, flat_map}
-use Prim.Native.Nat.{ℕ, ◌+◌, ◌*◌, ◌<◌}
+use mathlib.Core.List.{List, [], ◌∷◌, ◌++◌, flat_map}
+use Prim.Native.Nat.{ℕ, suc, ◌+◌, ◌*◌, ◌<◌}
 use native.Mathlib.Omega.{arith}
 use native.Mathlib.Numerals.{add-one}
-use lib.ListN.{length, get_or, take}
+use lib.ListN.{length, get_or, take, drop, replicate}
+use Rattle.row_laws.proofs.Pages.{numbers-length}
 use lib.Seq.{take-suc, take_all, length-take-le}
-use Rattle.row_spec.specs.Page.{listed, written}
+use Rattle.row_spec.specs.Page.{listed, numbers_of, written}
 use Rattle.row_spec.specs.declared.Field.{Field}
 use Rattle.row_spec.specs.declared.Field.TheVariants.{Null}
 use Rattle.value_list.specs.declared.Cell.{Cell}
@@ -66,3 +67,22 @@ pub rows_more : (P Q : ℕ → Field → Type 0) (s : List ℕ) (x : Rows) (befo
 rows_more P Q s x before after more lists =
     lists-more (RowIs P s x) x.given before (RowIs Q s x) after
     (λ m f less row. (row.0, λ e. more (live_at s x m) f (row.1 e))) lists
+
+-- ---- Null is three zeros
+nulls-zeros : (fs : List Field) → ((m : ℕ) → m < length fs → get_or fs m Null ≡ Null)
+    → numbers_of fs ≡ replicate (3 * length fs) 0
+unfolding listed flat_map
+nulls-zeros [] h = refl
+nulls-zeros (f ∷ fs) h =
+    let first : f ≡ Null = h 0 (omega arith) in
+    let three : 3 * suc (length fs) ≡ suc (suc (suc (3 * length fs))) = omega arith in
+    rw (first, three, nulls-zeros fs (λ m l. h (suc m) (omega arith)))
+
+pub nulls-listed : (n : ℕ) (before zeros : List ℕ) → zeros ≡ replicate (3 * n) 0
+    → Lists (λ m f. f ≡ Null) n before (zeros ++ drop (3 * n) before)
+unfolding written
+nulls-listed n before zeros z = record {
+  says = λ fs len is.
+      let e = nulls-zeros fs (λ m l. is m (rw len at l)) in
+      rw (z, numbers-length fs, e, len);
+}

@@ -2,31 +2,31 @@
 -- bucket shows.
 -- Assumes nothing.
 use mathlib.Core.Path.{◌≡◌, refl, sym, ap, ◌∙◌}
-use mathlib.Core.Bool.{true, false}
 use mathlib.Core.List.{List}
 use Prim.Native.Nat.{ℕ, ◌+◌, ◌-◌, ◌/◌, ◌≤◌, ◌<◌, min}
 use lib.ListN.{length, get_or, take, drop, length-take, length-drop}
 use Rattle.common.specs.Outcome.{Outcome, refused, found}
+use Rattle.std.specs.Prelude.{Ok, Err}
+use Rattle.common.specs.Refusal.{number}
+use Rattle.common.specs.declared.Refusal.{Refusal}
+use Rattle.common.specs.declared.Refusal.TheVariants.{Absent}
 use Rattle.common.proofs.Outcomes.{same-found}
 use Rattle.row_spec.specs.Schema.{schema, held, columns_of}
 use Rattle.row_spec.specs.Page.{Page, written, Paged}
 use Rattle.row_spec.specs.declared.Column.{Column}
 use Rattle.row_spec.specs.declared.Field.{Field}
 use Rattle.row_spec.specs.declared.Field.TheVariants.{Null}
-use Rattle.row_spec.specs.declared.PageAnswer.TheVariants as answer
 use Rattle.row_spec.specs.declared.Schema.{Schema}
-use Rattle.row_spec.specs.declared.SchemaRead.{SchemaRead}
-use Rattle.row_laws.proofs.Read.{read-refused, read_found}
+use Rattle.row_laws.proofs.Read.{read-refused, Known}
 use Rattle.row_laws.proofs.Pages.{taken_at}
 use Rattle.bucket_spec.specs.Bucket.{Judged, bucket}
 use Rattle.bucket_spec.specs.Page.{column, bucket_page}
-use Rattle.bucket_spec.specs.declared.BucketRead.{BucketRead}
-use Rattle.bucket_parts.specs.Told.{Judgement}
+use Rattle.bucket_spec.specs.declared.Bucket.{Bucket}
 use Rattle.bucket_laws.specs.Shown.{Shows}
 use Rattle.bucket_laws.proofs.Answered.{replied}
 use Rattle.bucket_laws.proofs.Pages.{column-answers, column-page, bucket-page, absent-column}
 use Rattle.bucket_list.specs.Listed.{Lists, ColumnThere, judged_of, PageListed}
-use Rattle.bucket_list.proofs.Columns.{columns-many}
+use Rattle.bucket_parts.proofs.Bodies.{columns-many}
 
 -- ---- the rows of a page
 taken-many : (fs : List Field) (n p room given : ℕ) → length fs ≡ n → given ≡ min (room / 3) (n - p)
@@ -57,12 +57,12 @@ module _ (cols : List Column) (n : ℕ) (s : List ℕ) (b : Judged) (i : ℕ) (a
       let y = taken_at fs p (room / 3) m Null (rw many less) in
       rw y.1 (x.1 (p + m) (rw (← x.0) y.0)))
 
-pub page-listed : (sc : Schema) (n : ℕ) (s : List ℕ) (b : BucketRead) (i p room given : ℕ) (before after : List ℕ)
+pub page-listed : (sc : Schema) (n : ℕ) (s : List ℕ) (b : Bucket) (i p room given : ℕ) (before after : List ℕ)
     → ColumnThere sc b i → given ≡ min (room / 3) (n - p)
     → Lists (λ m f. Shows (columns_of sc) n s (judged_of sc b) (p + m) i f) given before after
     → PageListed sc n s b i p room given before after
 page-listed sc n s b i p room given before after there gives lists =
-    let less : i < length (columns_of sc) = rw (columns-many sc b i there) there.there in
+    let less : i < length (columns_of sc) = rw (columns-many sc there.columns) there.there in
     record {
       gives = gives;
       holds = λ fs accepted is.
@@ -70,50 +70,43 @@ page-listed sc n s b i p room given before after there gives lists =
     }
 
 -- ---- answers
-refused-paged : (o : Outcome Page) (k : ℕ) (before : List ℕ) → o ≡ refused k → Paged o (answer.Refused k) before before
-refused-paged o k before e = rw e (record { says = refl; holds = refl })
+refused-paged : (o : Outcome Page) (r : Refusal) (before : List ℕ) → o ≡ refused (number r)
+    → Paged o (Err r) before before
+refused-paged o r before e = rw e (record { says = refl; holds = refl })
 
-module _ (d : List ℕ) (n : ℕ) (s : List ℕ) (i p : ℕ) (before : List ℕ) (x : SchemaRead) (e : x ≡ held (schema d)) where
-  pub page-unread : (x.refused ≡ 0 → ⊥)
-      → Paged (bucket_page d n s i p (length before)) (answer.Refused x.refused) before before
+module _ (d : List ℕ) (n : ℕ) (s : List ℕ) (i p : ℕ) (before : List ℕ) where
+  pub page-unread : (r : Refusal) → refused (number r) ≡ held (schema d)
+      → Paged (bucket_page d n s i p (length before)) (Err r) before before
   unfolding bucket_page
-  page-unread h = refused-paged _ _ before (rw (read-refused d x e h))
+  page-unread r e = refused-paged _ r before (rw (read-refused d _ e))
 
-  module _ (z : x.refused ≡ 0) (b : BucketRead) (j : Judgement x.schema n s b) where
-    pub page-bad : b.ok ≡ false
-        → Paged (bucket_page d n s i p (length before)) (answer.Refused b.refused) before before
+  module _ (sc : Schema) (known : Known d sc) where
+    pub page-bad : (r : Refusal) → refused (number r) ≡ bucket (columns_of sc) n s
+        → Paged (bucket_page d n s i p (length before)) (Err r) before before
     unfolding bucket_page
-    page-bad bad =
-        let refusal : bucket (columns_of x.schema) n s ≡ refused b.refused = sym j.says ∙ rw bad in
-        refused-paged _ _ before (rw ((read_found d x e z).is, refusal))
+    page-bad r bad = refused-paged _ r before (rw (known.is, ← bad))
 
-    module _ (good : b.ok ≡ true) where
-      accepted : bucket (columns_of x.schema) n s ≡ found (judged_of x.schema b)
-      accepted = sym j.says ∙ rw good
-
-      pub page-absent : x.schema.count ≤ i
-          → Paged (bucket_page d n s i p (length before)) (answer.Refused 25) before before
+    module _ (b : Bucket) (accepted : found (judged_of sc b) ≡ bucket (columns_of sc) n s) where
+      pub page-absent : sc.count ≤ i → Paged (bucket_page d n s i p (length before)) (Err Absent) before before
       page-absent h =
-          let known = read_found d x e z in
-          refused-paged _ 25 before
-          (absent-column d (columns_of x.schema) n s (judged_of x.schema b) i p (length before) known.is accepted
+          refused-paged _ Absent before
+          (absent-column d (columns_of sc) n s (judged_of sc b) i p (length before) known.is (sym accepted)
           (rw known.count h))
 
-      pub page-given : (given : ℕ) (after : List ℕ) → i < x.schema.count
-          → PageListed x.schema n s b i p (length before) given before after
-          → Paged (bucket_page d n s i p (length before)) (answer.Page given n) before after
+      pub page-given : (given : ℕ) (after : List ℕ) → i < sc.count
+          → PageListed sc n s b i p (length before) given before after
+          → Paged (bucket_page d n s i p (length before)) (Ok (record { given = given; rows = n })) before after
       page-given given after less page =
-          let known = read_found d x e z in
-          let cols = columns_of x.schema in
+          let cols = columns_of sc in
           let there : i < length cols = rw known.count less in
-          let a = column-answers cols n s (judged_of x.schema b) i accepted there in
+          let a = column-answers cols n s (judged_of sc b) i (sym accepted) there in
           let fs = a.0 in
           let is = a.1.0 in
           let many = a.1.1.0 in
           rw (
-            bucket-page d cols n s (judged_of x.schema b) i known.is accepted there fs is p (length before),
+            bucket-page d cols n s (judged_of sc b) i known.is (sym accepted) there fs is p (length before),
             column-page fs p (length before),
             taken-many fs n p (length before) given many page.gives,
             many,
           )
-          (record { says = refl; holds = page.holds fs accepted is })
+          (record { says = refl; holds = page.holds fs (sym accepted) is })

@@ -4,6 +4,7 @@ use mathlib.Core.Path.{◌≡◌, sym, ap, ◌∙◌}
 use mathlib.Core.Bool.{Bool, true, false}
 use mathlib.Core.List.{List, [], ◌∷◌, ◌++◌}
 use Prim.Native.Nat.{ℕ, suc, ◌+◌, ◌*◌, ◌≤◌, ◌<◌}
+use Rattle.std.specs.Prelude.{None}
 use native.Mathlib.Nat.{zero-add}
 use native.Mathlib.Omega.{arith}
 use lib.ListN.{length, get_or, take, drop, length-append, length-drop}
@@ -18,10 +19,8 @@ use Rattle.row_spec.specs.declared.Field.TheVariants.{Null}
 use Rattle.row_laws.proofs.Pages.{numbers-length, numbers-at}
 use Rattle.value_list.specs.declared.Cell.{Cell}
 use Rattle.value_list.specs.Cell.{numbers_in}
-use Rattle.row_spec.specs.Varint.{varint_at}
-use Rattle.row_spec.specs.declared.Varint.{Varint}
-use Rattle.bucket_spec.specs.Piece.{nth, live, index_width, entries_of, after_of}
-use Rattle.bucket_laws.specs.Shown.{Among, Entry}
+use Rattle.bucket_spec.specs.Piece.{nth, live}
+use Rattle.bucket_laws.specs.Shown.{Among}
 use Rattle.bucket_laws.proofs.Runs.{run_value, run-nth}
 use Rattle.bucket_laws.proofs.Pages.{answers-found}
 use Rattle.bucket_list.specs.declared.Rows.{Rows}
@@ -67,7 +66,7 @@ row_listed s table w cells x m j k null c at is index numbers f row = by-null nu
 -- ---- a table
 -- no row of a table is null
 abbrev pub entries_alone : ℕ → Rows
-entries_alone n = record { mapped = false; nulls = 0; place = 0; given = n }
+entries_alone n = record { nulls = None; place = 0; given = n }
 
 -- a table that was listed has the numbers of each of its entries
 pub entry_listed : (s : List ℕ) (t : ColumnType) (at n k : ℕ) (f : Field) (base table : List ℕ)
@@ -82,14 +81,3 @@ entry_listed s t at n k f base table lists a =
     let same : get_or es.0 k Null ≡ f =
     same-found (sym (rw (zero-add k) at (es.1.1.1 k a.below)) ∙ run-nth s t n k at f a) in
     ap (λ (l : List ℕ). entry_in l k) all ∙ written_at es.0 base k (rw es.1.1.0 a.below) ∙ ap listed same
-
--- the entry of a DICT row is among those that the code lists: as many as the table's number says, which are few enough
-pub dict-among : (s : List ℕ) (t : ColumnType) (table cells m j : ℕ) (f : Field) (number : Varint) (e from n w : ℕ)
-    → number ≡ varint_at s table → e ≡ entries_of number → from ≡ after_of number → (e ≤ 255 → n ≡ e) → w ≡ index_width e
-    → Entry s t table cells m j f → Among s t from n (low_bits s cells (j * w) w) f
-dict-among s t table cells m j f number e from n w read many first few width x =
-    let same : e ≡ x.entries = many ∙ ap entries_of (read ∙ x.count) in
-    let start : from ≡ x.first = first ∙ ap after_of (read ∙ x.count) in
-    let all : n ≡ x.entries = few (rw same x.most) ∙ same in
-    let wide : w ≡ index_width x.entries = width ∙ ap index_width same in
-    rw (start, all, wide) x.entry

@@ -1,7 +1,8 @@
 -- What the listing of a column's rows asks and promises.
-use Rattle.std.specs.Prelude.{ℕ, ◌+◌, ◌-◌, ◌*◌, ◌/◌, ◌≤◌, ◌<◌, min, ◌≡◌, Bool, true, false, List, [], ◌∷◌, length, get_or, take, drop, eqb}
-use Rattle.common.specs.Outcome.{both, Outcome, found, after}
-use Rattle.common.specs.Bytes.{ceil8, low_bit, low_bits}
+use Rattle.std.specs.Prelude.{ℕ, ◌+◌, ◌-◌, ◌*◌, ◌/◌, ◌≤◌, ◌<◌, min, ◌≡◌, Bool, true, false, List, [], ◌∷◌, length}
+use Rattle.std.specs.Prelude.{get_or, take, drop}
+use Rattle.common.specs.Outcome.{Outcome, found, after}
+use Rattle.common.specs.Bytes.{ceil8, low_bits}
 use Rattle.row_spec.specs.Page.{listed, written}
 use Rattle.row_spec.specs.Schema.{columns_of}
 use Rattle.row_spec.specs.declared.ColumnType.{ColumnType}
@@ -11,10 +12,13 @@ use Rattle.row_spec.specs.declared.Schema.{Schema}
 use Rattle.bucket_spec.specs.Piece.{nth, live}
 use Rattle.bucket_spec.specs.Bucket.{Judged, bucket}
 use Rattle.bucket_spec.specs.Page.{column}
-use Rattle.bucket_spec.specs.Read.{layout_read}
-use Rattle.bucket_spec.specs.declared.BucketRead.{BucketRead}
+use Rattle.bucket_spec.specs.Read.{is_mapped, bitmap_start, layout_read}
+use Rattle.bucket_spec.specs.declared.Encoding.TheVariants.{Plain, Const, Dict, AllNull}
+use Rattle.bucket_spec.specs.declared.Pieces.{Pieces}
+use Rattle.bucket_parts.specs.Told.{Columns}
+use Rattle.value_list.specs.Cell.{null_bit}
+use Rattle.bucket_spec.specs.declared.Bucket.{Bucket}
 use Rattle.bucket_laws.specs.Shown.{Among, Entry}
-use Rattle.bucket_list.specs.declared.Pieces.{Pieces}
 use Rattle.bucket_list.specs.declared.Rows.{Rows}
 use Rattle.bucket_list.specs.declared.Table.{Table}
 
@@ -30,11 +34,11 @@ pub record Fit (x : Rows) (list : List ℕ) : Type 0 where
 
 -- whether row m of these is null, by the column's bitmap, if it has one
 abbrev pub null_at : List ℕ → Rows → ℕ → Bool
-null_at s x m = both x.mapped (eqb (low_bit s x.nulls (x.place + m)) 1)
+null_at s x m = null_bit s x.nulls (x.place + m)
 
 -- how many rows of the column before row m of these are not null
 abbrev pub live_at : List ℕ → Rows → ℕ → ℕ
-live_at s x m = live s x.mapped x.nulls (x.place + m)
+live_at s x m = live s (is_mapped x.nulls) (bitmap_start x.nulls) (x.place + m)
 
 -- f is the field of row m: Null if the row is, else P holds of it, by how many rows before it are not null
 abbrev pub RowIs : (ℕ → Field → Type 0) → List ℕ → Rows → ℕ → Field → Type 0
@@ -65,26 +69,25 @@ abbrev pub EntryIs : List ℕ → ColumnType → Table → ℕ → Field → Typ
 EntryIs s t e j f = Among s t e.from e.entries (low_bits s e.cells (j * e.width) e.width) f
 
 -- ---- a column
--- the rows x of a column with these pieces, by its tag: 0 PLAIN, 1 CONST, 2 DICT, 3 ALL_NULL
+-- the rows x of a column with these pieces, by its encoding
 pub record ColumnListed (s : List ℕ) (t : ColumnType) (c : Pieces) (x : Rows) (before after : List ℕ) : Type 0 where
-  pub plain : c.tag ≡ 0 → RowsListed (ValueIs s t c.cells) s x before after
-  pub const : c.tag ≡ 1 → RowsListed (λ j f. Among s t c.start 1 0 f) s x before after
-  pub dict : c.tag ≡ 2 → (m : ℕ) → RowsListed (Entry s t c.table c.cells m) s x before after
-  pub nulls : c.tag ≡ 3 → Lists (λ m f. f ≡ Null) x.given before after
+  pub plain : c.encoding ≡ Plain → RowsListed (ValueIs s t c.cells) s x before after
+  pub const : c.encoding ≡ Const → RowsListed (λ j f. Among s t c.start 1 0 f) s x before after
+  pub dict : c.encoding ≡ Dict → (m : ℕ) → RowsListed (Entry s t c.table c.cells m) s x before after
+  pub nulls : c.encoding ≡ AllNull → Lists (λ m f. f ≡ Null) x.given before after
 
 -- column i is there in a bucket that was judged by the schema
-pub record ColumnThere (sc : Schema) (b : BucketRead) (i : ℕ) : Type 0 where
-  pub most : sc.count ≤ 64
-  pub columns : length sc.columns ≡ 64
+pub record ColumnThere (sc : Schema) (b : Bucket) (i : ℕ) : Type 0 where
+  pub columns : Columns sc
   pub framed : b.frame.has ≡ b.frame.tags + ceil8 (2 * sc.count)
   pub there : i < sc.count
 
 -- what the code holds of an accepted bucket
-abbrev pub judged_of : Schema → BucketRead → Judged
+abbrev pub judged_of : Schema → Bucket → Judged
 judged_of sc b = record { tags = b.frame.tags; layout = layout_read sc.count b }
 
 -- a page of column i, from row p on, in a list with so much room: how many rows it gives, and their fields
-pub record PageListed (sc : Schema) (n : ℕ) (s : List ℕ) (b : BucketRead) (i p room given : ℕ) (before after : List ℕ)
+pub record PageListed (sc : Schema) (n : ℕ) (s : List ℕ) (b : Bucket) (i p room given : ℕ) (before after : List ℕ)
     : Type 0 where
   pub gives : given ≡ min (room / 3) (n - p)
   pub holds : (fs : List Field) → bucket (columns_of sc) n s ≡ found (judged_of sc b)

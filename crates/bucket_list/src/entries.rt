@@ -34,17 +34,6 @@ fn entry_cell(null: bool, table: &[u64; 768], k: usize) -> Cell
     cell_of(table[3 * k], table[3 * k + 1], table[3 * k + 2], 0)
 }
 
-// The number of the next index: a null row has none.
-fn next_index(null: bool, j: usize) -> usize
-    requires { j ≤ 65536 }
-    ensures { result ≡ pick null j (j + 1) }
-{
-    if null {
-        return j;
-    }
-    j + 1
-}
-
 // For each row the entry that its index names; the indexes, of w bits, start at `cells`.
 pub(crate) fn list_entries(
     s: &[u8],
@@ -58,13 +47,11 @@ pub(crate) fn list_entries(
     ensures { RowsListed (ListedIn s.now table.now w cells) s.now x
         list.old list.new }
 {
-    let mut j = bucket_piece::live_rows(s, x.mapped, x.nulls, x.place);
-    let mut m = 0;
-    while m < x.given {
-        let null = value_list::is_null(s, x.mapped, x.nulls, x.place + m);
+    let mut j = bucket_piece::live_rows(s, x.nulls, x.place);
+    for m in 0..x.given {
+        let null = value_list::is_null(s, x.nulls, x.place + m);
         let k = index_at(s, cells, j * w, w);
         put_cell(list, 3 * m, entry_cell(null, table, k));
-        j = next_index(null, j);
-        m += 1;
+        j += !null as usize;
     }
 }

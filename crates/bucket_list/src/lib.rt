@@ -1,22 +1,22 @@
 #![tactic(auto)]
 
 // Buckets by pages: the schema and the bucket are judged once, then a column's rows from a place on are listed.
-ghost use Rattle.std.specs.Prelude.{◌≤◌, length};
+ghost use Rattle.std.specs.Prelude.{length};
 ghost use Rattle.row_spec.specs.Page.{Paged};
 ghost use Rattle.bucket_spec.specs.Page.{bucket_page};
 ghost use Rattle.bucket_list.specs.Listed.{ColumnThere, PageListed};
 
-use bucket_spec::BucketRead;
-use row_spec::{PageAnswer, Schema};
+use bucket_spec::Bucket;
+use common::Refusal;
+use row_spec::{PageCounts, Schema};
 
 mod column;
 mod entries;
 
-// Rows of a column: whether it has null bits and at which byte, which row is the first, and how many there are.
+// Rows of a column: at which byte its null bits start, if it has any, which row is the first, and how many there are.
 #[derive(Clone, Copy)]
 pub struct Rows {
-    pub mapped: bool,
-    pub nulls: usize,
+    pub nulls: Option<usize>,
     pub place: usize,
     pub given: usize,
 }
@@ -30,30 +30,13 @@ pub struct Table {
     pub cells: usize,
 }
 
-// A column's tag, and where its CONST value, its DICT table and its data start.
-#[derive(Clone, Copy)]
-pub struct Pieces {
-    pub tag: u32,
-    pub start: usize,
-    pub table: usize,
-    pub cells: usize,
-}
-
-// The rows of column i of a judged bucket of so many rows, from place on: how many were listed.
-fn list_page(
-    s: &[u8],
-    sc: Schema,
-    b: BucketRead,
-    rows: usize,
-    i: usize,
-    place: usize,
-    list: &mut [u64],
-) -> usize
-    requires { ColumnThere sc b i × (rows ≤ 65536) }
-    ensures { PageListed sc rows s.now b i place (length list.old) result
+// The rows of column i of a judged bucket, from place on: how many were listed.
+fn list_page(s: &[u8], sc: &Schema, b: &Bucket, i: usize, place: usize, list: &mut [u64]) -> usize
+    requires { ColumnThere sc.now b.now i }
+    ensures { PageListed sc.now b.now.frame.rows s.now b.now i place (length list.old) result
         list.old list.new }
 {
-    let given = value_list::rows_given(rows, place, list.len() / 3);
+    let given = value_list::rows_given(b.frame.rows, place, list.len() / 3);
     if given == 0 {
         return 0;
     }
@@ -69,35 +52,26 @@ pub fn page(
     column: u32,
     place: u32,
     list: &mut [u64],
-) -> PageAnswer
+) -> Result<PageCounts, Refusal>
     ensures { Paged
         (bucket_page schema_bytes.now rows bucket.now column place (length list.old))
         result list.old list.new }
 {
-    let read = schema::read(schema_bytes);
-    let refused = read.refused;
-    if refused != 0 {
-        return PageAnswer::Refused(refused);
-    }
-    let schema = read.schema;
-    let judged = bucket_parts::judge(bucket, schema, rows as usize);
-    if !judged.ok {
-        return PageAnswer::Refused(judged.refused);
-    }
+    let schema = schema::read(schema_bytes)?;
+    let judged = bucket_parts::judge(bucket, &schema, rows as usize)?;
     if schema.count <= column as usize {
-        return PageAnswer::Refused(25);
+        return Err(Refusal::Absent);
     }
     let given = list_page(
         bucket,
-        schema,
-        judged,
-        rows as usize,
+        &schema,
+        &judged,
         column as usize,
         place as usize,
         list,
     );
-    PageAnswer::Page {
+    Ok(PageCounts {
         given: given as u32,
         rows,
-    }
+    })
 }

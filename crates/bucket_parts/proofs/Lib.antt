@@ -1,3 +1,2 @@
 pub mod Alongs
-pub mod Parts
 pub mod Bodies

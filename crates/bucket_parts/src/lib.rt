@@ -4,5 +4,5 @@
 mod part;
 mod whole;
 
-pub use part::{has_bitmap, tag_of};
+pub use part::pieces_of;
 pub use whole::judge;

@@ -1,11 +1,13 @@
 -- "Buckets": the refusal 30 to 37, or where each column's pieces start; and the answer to a row and a column.
-use Rattle.std.specs.Prelude.{ℕ, zero, suc, ◌+◌, ◌*◌, Bool, not, List, [], ◌∷◌, ◌++◌, length, get_or, leb, ltb, eqb}
+use Rattle.std.specs.Prelude.{ℕ, Result, zero, suc, ◌+◌, ◌*◌, Bool, not, List, [], ◌∷◌, ◌++◌, length, get_or, leb}
+use Rattle.std.specs.Prelude.{ltb, eqb}
 use Rattle.common.specs.Outcome.{pick, both, either, Outcome, refused, found, then, need}
 use Rattle.common.specs.Lists.{from, every}
 use Rattle.common.specs.Bytes.{ceil8, low_bit, low_bits, low_spare_zero}
 use Rattle.row_spec.specs.Varint.{varint_at, on_varint}
 use Rattle.row_spec.specs.Schema.{schema, blank_column}
 use Rattle.row_spec.specs.declared.Varint.{Varint}
+use Rattle.row_spec.specs.declared.ReadFault.{ReadFault}
 use Rattle.row_spec.specs.declared.Column.{Column}
 use Rattle.row_spec.specs.declared.Field.{Field}
 use Rattle.row_spec.specs.declared.Field.TheVariants.{Null}
@@ -78,7 +80,7 @@ module _ (cols : List Column) (n : ℕ) (s : List ℕ) (tags has : ℕ) where
       (value_of s (col_of i).ty (tag_of i) (mapped i) r (get_or l.consts i 0) (get_or l.tables i 0) (get_or l.nulls i 0) (get_or l.cells i 0)))
 
 -- a number of the header that has to be k, and the place after it: "30 number by number (one cut short is 31)"
-unfoldable pub head_number : ℕ → Varint → Outcome ℕ
+unfoldable pub head_number : ℕ → Result Varint ReadFault → Outcome ℕ
 head_number k r = on_varint r (refused 31) (refused 30) (λ m next. need (eqb m k) 30 (found next))
 
 -- where the tags of a bucket start

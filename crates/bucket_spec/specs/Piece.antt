@@ -1,5 +1,5 @@
 -- The pieces that one column has in a bucket: its CONST value, its DICT table, its null bitmap, its data. Each yields the place after it.
-use Rattle.std.specs.Prelude.{ℕ, zero, suc, ◌+◌, ◌-◌, ◌*◌, Bool, true, List, length, leb, ltb, eqb}
+use Rattle.std.specs.Prelude.{ℕ, Result, zero, suc, ◌+◌, ◌-◌, ◌*◌, Bool, true, List, length, leb, ltb, eqb}
 use Rattle.std.specs.Int.Count.{count_leading_zeros}
 use Rattle.common.specs.Outcome.{pick, both, either, Outcome, refused, found, then, need}
 use Rattle.common.specs.Lists.{from, every}
@@ -7,6 +7,7 @@ use Rattle.common.specs.Bytes.{ceil8, low_bits, low_count, low_spare_zero}
 use Rattle.row_spec.specs.Varint.{varint_at, on_varint}
 use Rattle.row_spec.specs.Value.{value_at, on_value}
 use Rattle.row_spec.specs.declared.Varint.{Varint}
+use Rattle.row_spec.specs.declared.ReadFault.{ReadFault}
 use Rattle.row_spec.specs.declared.ColumnType.{ColumnType}
 use Rattle.row_spec.specs.declared.Column.{Column}
 use Rattle.row_spec.specs.declared.Field.{Field}
@@ -29,14 +30,14 @@ unfoldable pub index_width : ℕ → ℕ
 index_width e = 8 - count_leading_zeros 8 (e - 1)
 
 -- a table's number of entries, and where they start
-abbrev pub entries_of : Varint → ℕ
+abbrev pub entries_of : Result Varint ReadFault → ℕ
 entries_of r = on_varint r 0 0 (λ e next. e)
 
-abbrev pub after_of : Varint → ℕ
+abbrev pub after_of : Result Varint ReadFault → ℕ
 after_of r = on_varint r 0 0 (λ e next. next)
 
 -- "A table's number of entries: 31, 32, 33": "number of entries 2 to 255, then entries"
-unfoldable pub table_of : List ℕ → ColumnType → Varint → Outcome ℕ
+unfoldable pub table_of : List ℕ → ColumnType → Result Varint ReadFault → Outcome ℕ
 table_of s t r = on_varint r (refused 31) (refused 32) (λ e next. need (both (leb 2 e) (leb e 255)) 33 (values s t e next))
 
 -- tags: 0 PLAIN, 1 CONST, 2 DICT, 3 ALL_NULL

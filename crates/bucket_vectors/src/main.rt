@@ -52,11 +52,14 @@ fn page<W: Write>(
 // The question: `schema S, rows N, bucket B`, or that and `row R, column C, whole W` or `column C, place P, room R`.
 fn question<W: Write>(to: &mut W, words: &[u8], schema: &[u8], bucket: &[u8]) -> io::Result<()> {
     let rows = vector_text::small(vector_text::word(words, 3));
-    if vector_text::word(words, 7).len() == 0 {
-        vector_text::print_after(to, b": ", buckets::check(schema, rows, bucket) as u64)?;
-        return vector_text::print(to, b"\n");
+    if vector_text::word(words, 7).is_empty() {
+        let number = match buckets::check(schema, rows, bucket) {
+            Err(refusal) => u32::from(refusal),
+            Ok(()) => 0,
+        };
+        return writeln!(to, ": {number}");
     }
-    if vector_text::starts(vector_text::word(words, 6), b'c') {
+    if vector_text::word(words, 6).first() == Some(&b'c') {
         return page(
             to,
             schema,
@@ -78,13 +81,10 @@ fn question<W: Write>(to: &mut W, words: &[u8], schema: &[u8], bucket: &[u8]) ->
     )
 }
 
-// A line that starts with # is printed; any other is a name, a colon and a question.
+// A name, a colon and a question.
 fn show_line<W: Write>(to: &mut W, line: &[u8]) -> io::Result<()> {
-    if vector_text::comment(to, line)? {
-        return Ok(());
-    }
     let words = vector_text::after(line, b':');
-    vector_text::print(to, vector_text::before(line, b':'))?;
+    to.write_all(vector_text::before(line, b':'))?;
     let mut schema = [0u8; 256];
     let n = vector_text::decode(vector_text::word(words, 1), &mut schema);
     let mut bucket = [0u8; 256];
@@ -92,17 +92,6 @@ fn show_line<W: Write>(to: &mut W, line: &[u8]) -> io::Result<()> {
     question(to, words, &schema[..n], &bucket[..m])
 }
 
-fn show_lines<W: Write>(to: &mut W, text: &[u8]) -> io::Result<()> {
-    for line in text.split(|c| *c == b'\n') {
-        show_line(to, line)?;
-    }
-    Ok(())
-}
-
 fn main(rt: HostRuntime) -> io::Result<()> {
-    let mut text = [0u8; 65536];
-    let n = vector_text::read_full(&mut rt.reader(), &mut text)?;
-    let mut to = io::writer(&rt);
-    show_lines(&mut to, &text[..n])?;
-    to.flush()
+    vector_text::show_lines(&mut rt.reader(), &mut io::writer(&rt), show_line)
 }

@@ -1,31 +1,30 @@
 -- Parts of a list written over one another: before what is written, under it, and wholly inside it.
 -- Assumes nothing.
 use mathlib.Core.Path.{◌≡◌, sym, ap, ap₂, ◌∙◌}
-use mathlib.Core.List.{List, [], ◌∷◌, ◌++◌, append_assoc}
-use Prim.Native.Nat.{ℕ, ◌+◌, ◌-◌, ◌≤◌, ◌<◌}
+use mathlib.Core.List.{List, ◌++◌, append_assoc}
+use Prim.Native.Nat.{ℕ, ◌+◌, ◌-◌, ◌≤◌}
 use native.Mathlib.Nat.{add-zero}
-use native.Mathlib.Numerals.{add-one}
 use native.Mathlib.Omega.{arith}
-use lib.ListN.{length, get_or, set, take, drop, length-append, length-drop, take-append-drop}
-use lib.Seq.{length-take-le, take-suc, take-append-le, drop-append-le, take-take, take-add, drop-drop, drop-append-add}
-use lib.Seq.{take_at, drop_at, get_or-drop}
+use lib.ListN.{length, take, drop, length-append, length-drop, take-append-drop}
+use borrow.Rule.Slice.PartMut.{put_mid}
+use lib.Seq.{paste, length-take-le, take-append-le, drop-append-le, take-take, take-add, drop-drop, drop-append-add}
+use lib.Seq.{take_at, drop_at}
 use Rattle.bitmap_spec.specs.Output.{written}
-use Rattle.bitmap_laws.proofs.Output.{written-more, written_none, taken}
-use Rattle.bitmap_laws.proofs.Parts.{part_length, at_after}
+use Rattle.bitmap_laws.proofs.Output.{written_none, taken}
+use Rattle.bitmap_laws.proofs.Parts.{part_length}
 
--- one byte more of a part that is copied
-pub copy-turn : (s before out : List ℕ) (at to n i x : ℕ) → i < n → at + n ≤ length s → to + n ≤ length before
-    → x ≡ get_or s (at + i) 0 → out ≡ written before to (take i (drop at s))
-    → set out (to + i) x ≡ written before to (take (i + 1) (drop at s))
-copy-turn s before out at to n i x h r room e q =
-    let l : length (take i (drop at s)) ≡ i = part_length s at i (omega arith) in
-    let m : set (written before to (take i (drop at s))) (to + i) x
-    ≡ written before to (take i (drop at s) ++ (x ∷ [])) =
-    rw l at (written-more before (take i (drop at s)) to x (rw l (omega arith))) in
-    let d : length (drop at s) ≡ length s - at = length-drop at s in
-    ap (λ (o : List ℕ). set o (to + i) x) q
-    ∙ m
-    ∙ sym (rw (add-one i, take-suc (drop at s) i 0 (omega arith), get_or-drop at s i 0, ← e))
+-- a part overwritten by l
+pub put-part : (out l l' : List ℕ) (to k : ℕ) → l' ≡ l → k ≡ length l → put_mid to k out l' ≡ written out to l
+unfolding written
+put-part out l l' to k e n = rw (e, n, drop-drop (length l) to out)
+
+-- a part pasted
+pub paste-part : (s : List ℕ) (at to n : ℕ) → at + n ≤ length s
+    → paste s to (drop at s) (at + n - at) ≡ written s to (take n (drop at s))
+unfolding written
+paste-part s at to n h =
+    let k : at + n - at ≡ n = omega arith in
+    rw (k, part_length s at n h) (append_assoc (take to s) (take n (drop at s)) (drop (to + n) s))
 
 -- what is read before what is written is as it was
 read-front : (u r : List ℕ) (at n : ℕ) → at + n ≤ length u → take n (drop at (u ++ r)) ≡ take n (drop at u)
@@ -127,14 +126,3 @@ unfolding written
 self-written s at to n e h =
     let k : length (take n (drop at s)) ≡ n = part_length s at n h in
     rw (k, e, ← drop-drop n to s, take-append-drop n (drop to s)) (sym (take-append-drop to s))
-
--- one byte more: what is still to be read lies behind what is written
-pub down_turn : (s out : List ℕ) (at to n i : ℕ) → to ≤ at → at + n ≤ length s → i < n
-    → out ≡ written s to (take i (drop at s))
-    → set out (to + i) (get_or out (at + i) 0) ≡ written s to (take (i + 1) (drop at s))
-down_turn s out at to n i h g l e =
-    let k : length (take i (drop at s)) ≡ i = part_length s at i (omega arith) in
-    let x : get_or out (at + i) 0 ≡ get_or s (at + i) 0 =
-    ap (λ (b : List ℕ). get_or b (at + i) 0) e
-    ∙ at_after s (take i (drop at s)) to (omega arith) (at + i) (omega arith) in
-    copy-turn s s out at to n i (get_or out (at + i) 0) l g (omega arith) x e

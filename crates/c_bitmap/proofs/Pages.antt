@@ -13,35 +13,36 @@ use Rattle.bitmap_spec.specs.Judge.{judge}
 use Rattle.bitmap_laws.proofs.Accept.{judge-set}
 use Rattle.bitmap_laws.proofs.Rise.{rising-length}
 use Rattle.bitmap_spec.specs.declared.Listing.{Listing}
-use Rattle.bitmap_list.specs.Post.{Pages, Stand, paged, stand_of, list_after}
-use Rattle.bitmap_list.specs.declared.Paged.{Paged}
-use Rattle.bitmap_list.specs.declared.Paged.TheVariants as paging
+use Rattle.std.specs.Prelude.{Ok, Err}
+use Rattle.common.specs.declared.Refusal.{Refusal}
+use Rattle.common.specs.Refusal.{number}
+use Rattle.bitmap_list.specs.Post.{Pages, stand_of, list_after}
+use Rattle.bitmap_list.specs.declared.given.Page as listed
 use Rattle.c_bitmap.specs.Reading.{Memory, turned, PageCall}
 
-module _ {o : Outcome Page} {after : List ℕ} {r : Paged} (m : Memory) (h : Pages o m.list after r) where
-  pub refused-page : (n : ℕ) → r ≡ paging.Refused n
-      → PageCall o n m (record { list = after; given = m.given; place = m.place; mark = m.mark })
+module _ {o : Outcome Page} {after : List ℕ} (m : Memory) where
+  pub refused-page : (r : Refusal) → Pages o m.list after (Err r)
+      → PageCall o (number r) m (record { list = after; given = m.given; place = m.place; mark = m.mark })
   unfolding stand_of list_after
-  refused-page n e = go o (sym (ap paged e) ∙ h.says) h.holds
+  refused-page r h = go o h.says h.holds
     where
-      go : (o : Outcome Page) → refused n ≡ stand_of o → after ≡ list_after o m.list
-          → PageCall o n m (record { list = after; given = m.given; place = m.place; mark = m.mark })
-      go (refused k) q a = let z : n ≡ k = cc in record { says = z; holds = rw a }
+      go : (o : Outcome Page) → refused (number r) ≡ stand_of o → after ≡ list_after o m.list
+          → PageCall o (number r) m (record { list = after; given = m.given; place = m.place; mark = m.mark })
+      go (refused k) q a = let z : number r ≡ k = cc in record { says = z; holds = rw a }
       go (found p) q a = absurd (let z : ◌≡◌ {A = ℕ} 0 1 = cc in omega arith)
 
-  pub page-given : (g mark : ℕ) (at : Listing) → r ≡ paging.Page g at
-      → mark ≡ pick (eqb m.mark 0) (one at.finished) m.mark
-      → PageCall o 0 m (record { list = after; given = g; place = at.place; mark = mark })
+  pub page-given : (g : listed.Page) (mark : ℕ) → Pages o m.list after (Ok g)
+      → mark ≡ pick (eqb m.mark 0) (one g.next.finished) m.mark
+      → PageCall o 0 m (record { list = after; given = g.given; place = g.next.place; mark = mark })
   unfolding stand_of list_after turned
-  page-given g mark at e k = go o (sym (ap paged e) ∙ h.says) h.holds
+  page-given g mark h k = go o h.says h.holds
     where
-      go : (o : Outcome Page) → found (record { given = g; next = at }) ≡ stand_of o → after ≡ list_after o m.list
-          → PageCall o 0 m (record { list = after; given = g; place = at.place; mark = mark })
+      go : (o : Outcome Page) → found g ≡ stand_of o → after ≡ list_after o m.list
+          → PageCall o 0 m (record { list = after; given = g.given; place = g.next.place; mark = mark })
       go (refused n) q a = absurd (let z : ◌≡◌ {A = ℕ} 0 1 = cc in omega arith)
       go (found p) q a =
-          let z : ◌≡◌ {A = Stand} (record { given = g; next = at })
-          (record { given = length p.given; next = p.next }) = cc in
-          record { says = refl; holds = rw (a, k, ap (λ (q : Stand). q.given) z, ap (λ (q : Stand). q.next) z) }
+          let z : ◌≡◌ {A = listed.Page} g (record { given = length p.given; next = p.next }) = cc in
+          record { says = refl; holds = rw (a, k, ap (λ (q : listed.Page). q.given) z, ap (λ (q : listed.Page). q.next) z) }
 
 -- ---- a page gives few members: those of a set
 keep-le : (f : ℕ → Bool) (l : List ℕ) → length (keep f l) ≤ length l
@@ -65,17 +66,16 @@ given-le l at room = go at.finished
     go true = omega arith
     go false = omega (arith, keep-le (λ x. leb at.place x) l, length-take room above)
 
-pub page-few : (s : List ℕ) (at : Listing) (room n : ℕ) (next : Listing)
-    → found (record { given = n; next = next }) ≡ stand_of (page s at room) → n ≤ 2097152
+pub page-few : (s : List ℕ) (at : Listing) (room : ℕ) (g : listed.Page) → found g ≡ stand_of (page s at room)
+    → g.given ≤ 2097152
 unfolding page stand_of
-page-few s at room n next e = go (judge s) refl e
+page-few s at room g e = go (judge s) refl e
   where
-    go : (o : Outcome (List ℕ)) → judge s ≡ o
-        → found (record { given = n; next = next }) ≡ stand_of (then o (λ l. found (page_in l at room))) → n ≤ 2097152
+    go : (o : Outcome (List ℕ)) → judge s ≡ o → found g ≡ stand_of (then o (λ l. found (page_in l at room)))
+        → g.given ≤ 2097152
     go (refused m) q f = absurd (let z : ◌≡◌ {A = ℕ} 0 1 = cc in omega arith)
     go (found l) q f =
         let p = page_in l at room in
-        let z : ◌≡◌ {A = Stand} (record { given = n; next = next })
-        (record { given = length p.given; next = p.next }) = cc in
+        let z : ◌≡◌ {A = listed.Page} g (record { given = length p.given; next = p.next }) = cc in
         let few = rising-length 2097152 0 l (omega arith) (judge-set s l q) in
-        omega (arith, ap (λ (s : Stand). s.given) z, given-le l at room, few)
+        omega (arith, ap (λ (g : listed.Page). g.given) z, given-le l at room, few)

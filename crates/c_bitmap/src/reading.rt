@@ -4,21 +4,14 @@ ghost use Rattle.common.specs.Outcome.{Call, CountCall, one};
 ghost use Rattle.bitmap_spec.specs.Ask as ask;
 ghost use Rattle.c_bitmap.specs.Reading.{listing, PageCall};
 
-use bitmap_list::Paged;
-use bitmap_read::{Checked, Probed, Ranked};
+use crate::answer;
 use bitmap_spec::Listing;
 
 // Judges the bitmap and gives its cardinality.
 pub fn bitmap_check(bytes: &[u8], cardinality: &mut u32) -> u32
     ensures { CountCall (ask.check bytes.now) result cardinality.old cardinality.new }
 {
-    match bitmap_read::check(bytes) {
-        Checked::Refused(r) => r,
-        Checked::Cardinality(n) => {
-            *cardinality = n;
-            0
-        }
-    }
+    answer(bitmap_read::check(bytes), cardinality)
 }
 
 // Whether the position is a member: 0 or 1.
@@ -26,9 +19,9 @@ pub fn bitmap_probe(bytes: &[u8], position: u32, member: &mut u8) -> u32
     ensures { Call (ask.probe bytes.now position) one result member.old member.new }
 {
     match bitmap_read::probe(bytes, position) {
-        Probed::Refused(r) => r,
-        Probed::Member(b) => {
-            *member = if b { 1 } else { 0 };
+        Err(refusal) => u32::from(refusal),
+        Ok(is_member) => {
+            *member = u8::from(is_member);
             0
         }
     }
@@ -38,13 +31,7 @@ pub fn bitmap_probe(bytes: &[u8], position: u32, member: &mut u8) -> u32
 pub fn bitmap_rank(bytes: &[u8], position: u32, below: &mut u32) -> u32
     ensures { CountCall (ask.rank bytes.now position) result below.old below.new }
 {
-    match bitmap_read::rank(bytes, position) {
-        Ranked::Refused(r) => r,
-        Ranked::Below(n) => {
-            *below = n;
-            0
-        }
-    }
+    answer(bitmap_read::rank(bytes, position), below)
 }
 
 // A page of members into the list; place and mark say where the listing stands.
@@ -65,12 +52,12 @@ pub fn bitmap_page(
         finished: was != 0,
     };
     match bitmap_list::page(bytes, at, list) {
-        Paged::Refused(r) => r,
-        Paged::Page { given: n, next } => {
-            *given = n as u32;
-            *place = next.place;
+        Err(refusal) => u32::from(refusal),
+        Ok(page) => {
+            *given = page.given as u32;
+            *place = page.next.place;
             if was == 0 {
-                *finished = if next.finished { 1 } else { 0 };
+                *finished = u8::from(page.next.finished);
             }
             0
         }

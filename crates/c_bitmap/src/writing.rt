@@ -1,24 +1,10 @@
 // Writing and combining bitmaps.
 ghost use Rattle.std.specs.Prelude.{length};
-ghost use Rattle.common.specs.Outcome.{CountCall};
-ghost use Rattle.bitmap_spec.specs.Output.{write, called, said};
+ghost use Rattle.bitmap_spec.specs.Output.{write, called};
 ghost use Rattle.bitmap_spec.specs.declared.Operation.TheVariants.{Union, Intersection, Difference, SymmetricDifference};
 ghost use Rattle.c_bitmap.specs.Writing.{WriteCall};
 
-use bitmap_spec::Written;
-
-// The answer of a writing call as a status; the length is set where there is one.
-pub fn answer(w: Written, size: &mut usize) -> u32
-    ensures { CountCall (said w) result size.old size.new }
-{
-    match w {
-        Written::Refused(r) => r,
-        Written::Length(n) => {
-            *size = n;
-            0
-        }
-    }
-}
+use crate::answer;
 
 // Writes the form of the listed positions.
 pub fn bitmap_write(positions: &[u32], out: &mut [u8], size: &mut usize) -> u32

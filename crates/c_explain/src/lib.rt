@@ -15,11 +15,21 @@ pub fn bitmap_explain(
 ) -> u32
     ensures { (result ≡ 0) × (fault number.new index.new byte.new found.new wanted.new ≡ fault_of (explained bytes.now)) }
 {
-    let f = bitmap_explain::explain(bytes);
-    *number = f.number;
-    *index = f.index;
-    *byte = f.byte;
-    *found = f.found;
-    *wanted = f.wanted;
+    match bitmap_explain::explain(bytes) {
+        Some(f) => {
+            *number = f.refusal.into();
+            *index = f.index;
+            *byte = f.byte;
+            *found = f.found;
+            *wanted = f.wanted;
+        }
+        None => {
+            *number = 0;
+            *index = 0;
+            *byte = 0;
+            *found = 0;
+            *wanted = 0;
+        }
+    }
     0
 }

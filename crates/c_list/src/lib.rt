@@ -7,8 +7,6 @@ ghost use Rattle.row_spec.specs.Page.{block_page};
 ghost use Rattle.bucket_spec.specs.Page.{bucket_page};
 ghost use Rattle.c_list.specs.Outputs.{PageCall};
 
-use row_spec::PageAnswer;
-
 // The fields of a block's rows from place on, as many whole rows as the list takes.
 pub fn block_page(
     schema: &[u8],
@@ -24,11 +22,11 @@ pub fn block_page(
 {
     let at = *place;
     match row_list::page(schema, block, at, list) {
-        PageAnswer::Refused(n) => n,
-        PageAnswer::Page { given: g, rows: n } => {
-            *place = at + g;
-            *given = g;
-            *rows = n;
+        Err(refusal) => refusal.into(),
+        Ok(page) => {
+            *place = at + page.given;
+            *given = page.given;
+            *rows = page.rows;
             0
         }
     }
@@ -50,10 +48,10 @@ pub fn bucket_page(
 {
     let at = *place;
     match bucket_list::page(schema, rows, bucket, column, at, list) {
-        PageAnswer::Refused(n) => n,
-        PageAnswer::Page { given: k, rows: _ } => {
-            *place = at + k;
-            *given = k;
+        Err(refusal) => refusal.into(),
+        Ok(counts) => {
+            *place = at + counts.given;
+            *given = counts.given;
             0
         }
     }

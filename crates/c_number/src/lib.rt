@@ -5,39 +5,39 @@ ghost use Rattle.std.specs.Prelude.{◌≡◌, ◌≤◌};
 ghost use Rattle.row_spec.specs.Varint.{varint_at, on_varint};
 ghost use Rattle.row_spec.specs.Answer.{as_number, number_shown};
 
-use row_spec::{NumberShown, Varint};
+use row_spec::{NumberShown, ReadFault, Varint};
 
 // What was read, as plain numbers; a number has at most five bytes.
-fn show(r: Varint) -> NumberShown
+fn show(r: Result<Varint, ReadFault>) -> NumberShown
     requires { on_varint r 0 0 (λ n next. next) ≤ 5 }
     ensures { result ≡ number_shown r }
 {
     match r {
-        Varint::CutShort => NumberShown {
-            found: 1,
-            value: 0,
-            used: 0,
-            shortest: 0,
+        Ok(n) => NumberShown {
+            found: 0,
+            value: n.number,
+            used: n.next as u32,
+            shortest: n.shortest as u8,
         },
-        Varint::IllFormed => NumberShown {
-            found: 2,
-            value: 0,
-            used: 0,
-            shortest: 0,
+        Err(fault) => match fault {
+            ReadFault::CutShort => NumberShown {
+                found: 1,
+                value: 0,
+                used: 0,
+                shortest: 0,
+            },
+            ReadFault::IllFormed => NumberShown {
+                found: 2,
+                value: 0,
+                used: 0,
+                shortest: 0,
+            },
         },
-        Varint::Number(value, next, short) => {
-            NumberShown {
-                found: 0,
-                value,
-                used: next as u32,
-                shortest: short as u8,
-            }
-        }
     }
 }
 
-// The number at the front of the bytes: found 0 a number, 1 cut short, 2 ill-formed; its value, the bytes used and 1 for the shortest
-// form, 0 where they mean nothing. Never refuses.
+// The number at the front of the bytes: found 0 a number, 1 cut short, 2 ill-formed; its value, the bytes used and 1
+// for the shortest form, 0 where they mean nothing. Never refuses.
 pub fn number_read(
     bytes: &[u8],
     found: &mut u8,

@@ -5,11 +5,12 @@ use Prim.Native.Nat.{ℕ}
 use Rattle.common.specs.Outcome.{Outcome, refused, found, status}
 use Rattle.store_spec.specs.Store.{told, done_of}
 use Rattle.store_spec.specs.Owners.{OwnChanges, OwnDrops, AllChanges}
-use Rattle.store_spec.specs.declared.Stored.{Stored}
+use Rattle.std.specs.Prelude.{Result}
+use Rattle.common.specs.declared.Refusal.{Refusal}
 use Rattle.c_store.specs.Storing.{PutCall, DropCall, LoadCall}
 
 -- the status of what a call told
-told-status : (x : Outcome (List (List ℕ))) (s : Stored) (r : ℕ) → told s ≡ done_of x → r ≡ status (told s)
+told-status : (x : Outcome (List (List ℕ))) (s : Result (Unit {0}) Refusal) (r : ℕ) → told s ≡ done_of x → r ≡ status (told s)
     → r ≡ status x
 unfolding done_of
 told-status x s r t e = e ∙ ap status t ∙ done x
@@ -18,7 +19,7 @@ told-status x s r t e = e ∙ ap status t ∙ done x
     done (refused n) = refl
     done (found es) = refl
 
-module _ (x : Outcome (List (List ℕ))) (s : Stored) (r : ℕ) (e : r ≡ status (told s)) (dir buf dir' : List ℕ) where
+module _ (x : Outcome (List (List ℕ))) (s : Result (Unit {0}) Refusal) (r : ℕ) (e : r ≡ status (told s)) (dir buf dir' : List ℕ) where
   pub put-call : (o : ℕ) (buf' : List ℕ) → OwnChanges o x dir buf dir' buf' s → PutCall o x r dir buf dir' buf'
   put-call o buf' c = record { says = told-status x s r c.says e; left = c.left }
 

@@ -10,15 +10,15 @@ ghost use Rattle.store_spec.specs.Saved.{save_on, load_on};
 ghost use Rattle.c_bitmap.specs.Writing.{WriteCall};
 ghost use Rattle.c_store.specs.Storing.{PutCall, DropCall, LoadCall};
 
-use store_spec::Stored;
+use common::Refusal;
 
 // The answer of a call that changes a store, as a status.
-fn status_of(s: Stored) -> u32
+fn status_of(s: Result<(), Refusal>) -> u32
     ensures { result ≡ status (told s) }
 {
     match s {
-        Stored::Refused(r) => r,
-        Stored::Done => 0,
+        Err(refusal) => u32::from(refusal),
+        Ok(()) => 0,
     }
 }
 

@@ -3,20 +3,14 @@ ghost use Rattle.common.specs.Outcome.{CountCall};
 ghost use Rattle.row_spec.specs.Block.{row_count, block_field};
 ghost use Rattle.c_table.specs.Outputs.{FieldCall};
 
+use crate::counts::set_count;
 use crate::fields::set_field;
-use row_spec::CountAnswer;
 
 // The number of rows.
 pub fn block_check(schema: &[u8], block: &[u8], rows: &mut u32) -> u32
     ensures { CountCall (row_count schema.now block.now) result rows.old rows.new }
 {
-    match rows::check(schema, block) {
-        CountAnswer::Refused(n) => n,
-        CountAnswer::Count(n) => {
-            *rows = n;
-            0
-        }
-    }
+    set_count(rows::check(schema, block), rows)
 }
 
 // One field, as its kind and plain numbers.

@@ -10,7 +10,10 @@ use crate::fields::set_field;
 pub fn bucket_check(schema: &[u8], rows: u32, bucket: &[u8]) -> u32
     ensures { result ≡ status (bucket_refusal schema.now rows bucket.now) }
 {
-    buckets::check(schema, rows, bucket)
+    match buckets::check(schema, rows, bucket) {
+        Err(refusal) => refusal.into(),
+        Ok(()) => 0,
+    }
 }
 
 // One field, as its kind and plain numbers.

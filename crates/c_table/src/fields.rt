@@ -1,12 +1,13 @@
 // The answer of a field call.
-ghost use Rattle.row_spec.specs.Answer.{field_outcome};
+ghost use Rattle.common.specs.Refusal.{outcome};
 ghost use Rattle.c_table.specs.Outputs.{FieldCall};
 
-use row_spec::FieldAnswer;
+use common::Refusal;
+use row_spec::Field;
 
 // The answer as a status; its kind and plain numbers are set where there is a field.
 pub(crate) fn set_field(
-    answer: FieldAnswer,
+    answer: Result<Field, Refusal>,
     kind: &mut u8,
     whole: &mut i64,
     bits: &mut u64,
@@ -14,13 +15,13 @@ pub(crate) fn set_field(
     start: &mut usize,
     length: &mut usize,
 ) -> u32
-    ensures { FieldCall (field_outcome answer) result
+    ensures { FieldCall (outcome answer) result
         (record { kind = kind.entry.now; whole = whole.old; bits = bits.old; nanos = nanos.old; start = start.old; length = length.old })
         (record { kind = kind.exit.now; whole = whole.new; bits = bits.new; nanos = nanos.new; start = start.new; length = length.new }) }
 {
     match answer {
-        FieldAnswer::Refused(n) => n,
-        FieldAnswer::Field(f) => {
+        Err(refusal) => refusal.into(),
+        Ok(f) => {
             let v = values::show(f);
             let w = v.whole;
             *kind = v.kind;

@@ -4,6 +4,7 @@
 // its outputs, or returns the refusal's number and leaves every output untouched.
 mod block_calls;
 mod bucket_calls;
+mod counts;
 mod fields;
 mod schema_calls;
 

@@ -3,19 +3,13 @@ ghost use Rattle.common.specs.Outcome.{CountCall};
 ghost use Rattle.row_spec.specs.Schema.{column_count, column_of};
 ghost use Rattle.c_table.specs.Outputs.{ColumnCall};
 
-use row_spec::{ColumnAnswer, CountAnswer};
+use crate::counts::set_count;
 
 // The number of columns.
 pub fn schema_check(schema: &[u8], columns: &mut u32) -> u32
     ensures { CountCall (column_count schema.now) result columns.old columns.new }
 {
-    match schema::check(schema) {
-        CountAnswer::Refused(n) => n,
-        CountAnswer::Count(n) => {
-            *columns = n;
-            0
-        }
-    }
+    set_count(schema::check(schema), columns)
 }
 
 // One column: its type's id, whether it may be null, its length or precision, its scale.
@@ -32,10 +26,9 @@ pub fn schema_column(
         (record { id = id.exit.now; nullable = nullable.new; size = size.new; scale = scale.new }) }
 {
     match schema::column(schema, column) {
-        ColumnAnswer::Refused(n) => n,
-        ColumnAnswer::Column(c) => {
-            let ty = c.ty;
-            let t = values::show_type(ty);
+        Err(refusal) => refusal.into(),
+        Ok(c) => {
+            let t = values::show_type(c.ty);
             *id = t.id;
             *nullable = c.nullable as u8;
             *size = t.size;

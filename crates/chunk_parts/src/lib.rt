@@ -10,12 +10,10 @@ pub fn less(ds: &[u8], m: u8, vs: &mut [u8]) -> usize
     requires { (length ds.now ≤ length vs.old) × ((i : ℕ) → i < length ds.now → m ≤ get_or ds.now i 0) }
     ensures { (result ≡ length ds.now) × (vs.new ≡ written vs.old 0 (map (λ d. d - m) ds.now)) }
 {
-    let mut i: usize = 0;
-    while i < ds.len() {
-        vs[i] = ds[i] - m;
-        i += 1;
+    for (i, &d) in ds.iter().enumerate() {
+        vs[i] = d - m;
     }
-    i
+    ds.len()
 }
 
 // The offsets of the widths over b, from out[at] on.
@@ -25,13 +23,11 @@ pub fn put_offsets(ws: &[u8], b: u32, out: &mut [u8], at: usize) -> usize
 {
     let narrow = b as u8;
     let mut e: usize = 0;
-    let mut i: usize = 0;
-    while i < ws.len() {
-        if narrow < ws[i] {
+    for (i, &w) in ws.iter().enumerate() {
+        if narrow < w {
             out[at + e] = i as u8;
             e += 1;
         }
-        i += 1;
     }
     e
 }
@@ -41,11 +37,8 @@ pub fn high_parts(vs: &[u8], b: u32, offs: &[u8], out: &mut [u8]) -> usize
     requires { (length offs.now ≤ length out.old) × (b < 8) × ((j : ℕ) → j < length offs.now → get_or offs.now j 0 < length vs.now) }
     ensures { (result ≡ length offs.now) × (out.new ≡ written out.old 0 (map (λ i. get_or vs.now i 0 / 2 ^ b) offs.now)) }
 {
-    let mut j: usize = 0;
-    while j < offs.len() {
-        let i = offs[j] as usize;
-        out[j] = vs[i] >> b;
-        j += 1;
+    for (j, &i) in offs.iter().enumerate() {
+        out[j] = vs[i as usize] >> b;
     }
-    j
+    offs.len()
 }

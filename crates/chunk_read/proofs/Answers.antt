@@ -1,7 +1,7 @@
 -- Which answer a chunk has, test by test, in the order of the tests.
 -- Assumes nothing.
 use mathlib.Core.Path.{◌≡◌}
-use mathlib.Core.Bool.{true, false}
+use mathlib.Core.Bool.{Bool, true, false}
 use mathlib.Core.List.{List, ◌++◌}
 use Prim.Native.Nat.{ℕ, ◌+◌, ◌-◌, ◌≤◌, ◌<◌}
 use native.Mathlib.Omega.{arith}
@@ -16,7 +16,16 @@ use Rattle.bitmap_spec.specs.Judge.{Chunk, chunk, chunk_with, descriptor, widths
 use Rattle.bitmap_spec.specs.declared.ChunkHead.{ChunkHead}
 use Rattle.common.proofs.Lists.{rising-range, both_left}
 use Rattle.chunk_read.specs.Post.{Decoded, Laid}
-use Rattle.chunk_read.specs.declared.Step.TheVariants.{Refused, Next}
+use Rattle.std.specs.Prelude.{Ok, Err}
+use Rattle.common.specs.declared.Refusal.{Refusal}
+use Rattle.common.specs.Refusal.{number}
+
+-- what is_rising says of the part of s between the offsets and what follows them
+pub offsets-part : (n : ℕ) (s : List ℕ) (o e p : ℕ) (r : Bool) → p ≡ o + e → r ≡ rising n 0 (take (p - o) (drop o s))
+    → r ≡ rising n 0 (take e (drop o s))
+offsets-part n s o e p r q h =
+    let m : p - o ≡ e = omega arith in
+    rw m at h
 
 -- offsets that passed the test are below n
 pub offsets-inside : (n : ℕ) (s : List ℕ) (o e : ℕ) → rising n 0 (take e (drop o s)) ≡ true → o + e ≤ length s → (j : ℕ)
@@ -27,11 +36,11 @@ offsets-inside n s o e t h j l =
     rw (get_or-take e (drop o s) j 0 l, get_or-drop o s j 0) at r
 
 module _ (o : Outcome Chunk) (before after : List ℕ) (k n : ℕ) where
-  pub refuse : (r : ℕ) → o ≡ refused r → Decoded o before after k n (Refused r)
+  pub refuse : (r : Refusal) → o ≡ refused (number r) → Decoded o before after k n (Err r)
   refuse r e = record { says = rw e; holds = λ c q. absurd (let z : ◌≡◌ {A = ℕ} 0 1 = cc in omega arith) }
 
   pub accept : (ds : List ℕ) (at : ℕ) → o ≡ found (record { descs = ds; next = at })
-      → take (k + n) after ≡ take k before ++ ds → Decoded o before after k n (Next at)
+      → take (k + n) after ≡ take k before ++ ds → Decoded o before after k n (Ok at)
   accept ds at e h =
       record { says = rw e; holds = λ c q. let z : record { descs = ds; next = at } ≡ c = cc in rw (← z) h }
 

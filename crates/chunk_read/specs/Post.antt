@@ -1,26 +1,21 @@
 -- What the functions of this crate promise, and what they ask.
-use Rattle.std.specs.Prelude.{ℕ, ◌+◌, ◌*◌, ◌%◌, ◌≤◌, ◌<◌, ◌≡◌, Bool, true, List, ◌++◌, length, get_or, take, leb}
+use Rattle.std.specs.Prelude.{ℕ, ◌+◌, ◌*◌, ◌%◌, ◌≤◌, ◌<◌, ◌≡◌, Bool, true, Result, List, ◌++◌, length, get_or, take, leb}
 use Rattle.common.specs.Outcome.{Outcome, refused, found}
 use Rattle.common.specs.Lists.{from, every, table}
 use Rattle.common.specs.Bytes.{ceil8}
 use Rattle.bitmap_spec.specs.Bits.{value}
 use Rattle.bitmap_spec.specs.Judge.{Chunk, descriptor}
 use Rattle.bitmap_spec.specs.declared.ChunkHead.{ChunkHead}
-use Rattle.chunk_read.specs.declared.Step.{Step}
-use Rattle.chunk_read.specs.declared.Step.TheVariants.{Refused, Next}
-
--- the answer that a step stands for
-abbrev pub said : Step → Outcome ℕ
-said (Refused n) = refused n
-said (Next at) = found at
+use Rattle.common.specs.declared.Refusal.{Refusal}
+use Rattle.common.specs.Refusal.{outcome}
 
 abbrev pub next_of : Outcome Chunk → Outcome ℕ
 next_of (refused n) = refused n
 next_of (found c) = found c.next
 
 -- before and after are the output's bytes; the descriptors are written from k on
-pub record Decoded (o : Outcome Chunk) (before after : List ℕ) (k n : ℕ) (r : Step) : Type 0 where
-  pub says : said r ≡ next_of o
+pub record Decoded (o : Outcome Chunk) (before after : List ℕ) (k n : ℕ) (r : Result ℕ Refusal) : Type 0 where
+  pub says : outcome r ≡ next_of o
   pub holds : (c : Chunk) → o ≡ found c → take (k + n) after ≡ take k before ++ c.descs
 
 -- f i, .., f (n - 1), each modulo 256, stand from byte k + i on, the bytes before them stayed, and any is below 64

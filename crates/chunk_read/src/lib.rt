@@ -8,31 +8,22 @@ ghost use Rattle.bitmap_spec.specs.Judge.{descriptor, chunk, chunk_with, widths_
 ghost use Rattle.chunk_read.specs.Post.{Decoded, Wrote, primary_of, Plain, Patched, Arrays, Filled, Laid};
 
 use bitmap_spec::ChunkHead;
+use common::Refusal;
 
-// A refusal's number, or where the next chunk starts.
-#[derive(Clone, Copy)]
-pub enum Step {
-    Refused(u32),
-    Next(usize),
-}
-
-// Whether the e bytes at o rise strictly and are below n.
-fn is_rising(s: &[u8], o: usize, e: usize, n: usize) -> bool
-    requires { o + e ≤ length s.now }
-    ensures { result ≡ rising n 0 (take e (drop o s.now)) }
+// Whether the offsets rise strictly and are below n.
+fn is_rising(offsets: &[u8], n: usize) -> bool
+    ensures { result ≡ rising n 0 offsets.now }
 {
-    let mut lo: usize = 0;
-    let mut i: usize = 0;
-    while i < e {
-        let x = s[o + i] as usize;
-        if x < lo {
+    let mut low: usize = 0;
+    for &x in offsets {
+        let offset = x as usize;
+        if offset < low {
             return false;
         }
-        if n <= x {
+        if n <= offset {
             return false;
         }
-        lo = x + 1;
-        i += 1;
+        low = offset + 1;
     }
     true
 }
@@ -57,10 +48,8 @@ fn group(s: &[u8], q: usize, w: usize) -> u64
     ensures { result ≡ bits s.now (q * 8) (w * 8) }
 {
     let mut x: u64 = 0;
-    let mut i: usize = 0;
-    while i < w {
+    for i in 0..w {
         x = x * 256 + s[q + i] as u64;
-        i += 1;
     }
     x
 }
@@ -80,12 +69,10 @@ fn put_eight(x: u64, w: u32, m: u32, out: &mut [u8], to: usize) -> u32
     ensures { Wrote (λ t. m + x / 2 ^ (w * (7 - t)) % 2 ^ w) 0 8 to out.old out.new result }
 {
     let mut any: u32 = 0;
-    let mut t: usize = 0;
-    while t < 8 {
+    for t in 0..8 {
         let v = m + nth(x, w, t);
         any = any | v;
         out[to + t] = (v % 256) as u8;
-        t += 1;
     }
     any
 }
@@ -98,11 +85,9 @@ fn groups(s: &[u8], at: usize, w: u32, m: u32, whole: usize, out: &mut [u8], k: 
 {
     let wide = w as usize;
     let mut any: u32 = 0;
-    let mut g: usize = 0;
-    while g < whole {
+    for g in 0..whole {
         let x = group(s, at + g * wide, wide);
         any = any | put_eight(x, w, m, out, k + g * 8);
-        g += 1;
     }
     any
 }
@@ -113,28 +98,20 @@ fn bytes(s: &[u8], at: usize, m: u32, whole: usize, out: &mut [u8], k: usize) ->
     ensures { Wrote (primary_of s.now at 1 m) 0 (whole * 8) k out.old out.new result }
 {
     let mut any: u32 = 0;
-    let mut g: usize = 0;
-    while g < whole {
+    for g in 0..whole {
         let x = s[at + g] as u64;
         any = any | put_eight(x, 1, m, out, k + g * 8);
-        g += 1;
     }
     any
 }
 
-// The same of no bits, n values.
+// The same of no bits, n values, one at least.
 fn repeat(m: u32, n: usize, out: &mut [u8], k: usize) -> u32
-    requires { (m < 256) × (k + n ≤ length out.old) }
+    requires { (m < 256) × (1 ≤ n) × (k + n ≤ length out.old) }
     ensures { Wrote (λ i. m) 0 n k out.old out.new result }
 {
-    let mut any: u32 = 0;
-    let mut i: usize = 0;
-    while i < n {
-        any = any | m;
-        out[k + i] = (m % 256) as u8;
-        i += 1;
-    }
-    any
+    out[k..k + n].fill(m as u8);
+    m
 }
 
 // The same of few values. Each copies the one before it: of that the back end makes no call of memset, which would take
@@ -148,11 +125,9 @@ fn repeat_few(m: u32, n: usize, out: &mut [u8], k: usize) -> u32
     }
     out[k] = (m % 256) as u8;
     let mut any = m;
-    let mut i: usize = 1;
-    while i < n {
+    for i in 1..n {
         any = any | m;
         out[k + i] = out[k + i - 1];
-        i += 1;
     }
     any
 }
@@ -172,12 +147,10 @@ fn rest(
     ensures { Wrote (primary_of s.now at w m) first n k out.old out.new result }
 {
     let mut any: u32 = 0;
-    let mut i = first;
-    while i < n {
+    for i in first..n {
         let v = m + bits::packed_value(s, at, w, i);
         any = any | v;
         out[k + i] = (v % 256) as u8;
-        i += 1;
     }
     any
 }
@@ -213,15 +186,13 @@ fn patch(s: &[u8], h: ChunkHead, n: usize, out: &mut [u8], k: usize) -> bool
     requires { (k + n ≤ length out.old) × Arrays s.now h n × Plain s.now h n k out.old }
     ensures { Patched s.now h n k out.old out.new result }
 {
-    let mut j: usize = 0;
-    while j < h.e {
+    for j in 0..h.e {
         let x = k + s[h.offsets + j] as usize;
         let v = out[x] as u32 + (bits::packed_value(s, h.parts, h.b2, j) << h.b1);
         if 63 < v {
             return false;
         }
         out[x] = v as u8;
-        j += 1;
     }
     true
 }
@@ -238,27 +209,27 @@ fn fill(s: &[u8], h: ChunkHead, n: usize, out: &mut [u8], k: usize) -> bool
 }
 
 // The rest of a chunk, after its three bytes and the rule on widths: refusals 4, 6, 7, 8.
-fn chunk_with(s: &[u8], n: usize, h: ChunkHead, out: &mut [u8], k: usize) -> Step
+fn chunk_with(s: &[u8], n: usize, h: ChunkHead, out: &mut [u8], k: usize) -> Result<usize, Refusal>
     requires { (h.m < 256) × (k + n ≤ length out.old) × Laid (length s.now) n h }
     ensures { Decoded (chunk_with s.now n h) out.old out.new k n result }
 {
     let end = h.parts + (h.e * (h.b2 as usize) + 7) / 8;
     if s.len() < end {
-        return Step::Refused(4);
+        return Err(Refusal::ChunkCut);
     }
-    if !is_rising(s, h.offsets, h.e, n) {
-        return Step::Refused(6);
+    if !is_rising(&s[h.offsets..h.parts], n) {
+        return Err(Refusal::ChunkOffsets);
     }
     if !spare_zero(s, h.primary, h.b1, n) {
-        return Step::Refused(7);
+        return Err(Refusal::ChunkSpare);
     }
     if !spare_zero(s, h.parts, h.b2, h.e) {
-        return Step::Refused(7);
+        return Err(Refusal::ChunkSpare);
     }
     if !fill(s, h, n, out, k) {
-        return Step::Refused(8);
+        return Err(Refusal::ChunkDescriptor);
     }
-    Step::Next(end)
+    Ok(end)
 }
 
 // The rule on a chunk's widths.
@@ -296,16 +267,16 @@ pub fn head_at(s: &[u8], at: usize, n: usize) -> ChunkHead
 }
 
 // The chunk of n descriptors at `at`: written from out[k] on, or refused.
-pub fn chunk_at(s: &[u8], at: usize, n: usize, out: &mut [u8], k: usize) -> Step
+pub fn chunk_at(s: &[u8], at: usize, n: usize, out: &mut [u8], k: usize) -> Result<usize, Refusal>
     requires { (at ≤ length s.now) × (n ≤ 256) × (k + n ≤ length out.old) }
     ensures { Decoded (chunk s.now at n) out.old out.new k n result }
 {
     if s.len() < at + 3 {
-        return Step::Refused(4);
+        return Err(Refusal::ChunkCut);
     }
     let h = head_at(s, at, n);
     if !widths_ok(h) {
-        return Step::Refused(5);
+        return Err(Refusal::ChunkWidths);
     }
     chunk_with(s, n, h, out, k)
 }

@@ -8,7 +8,6 @@ ghost use Rattle.bitmap_laws.proofs.Values.{AllLe};
 ghost use Rattle.chunk_vectors.specs.Within.{Laid, Within};
 
 use bitmap_spec::ChunkHead;
-use chunk_read::Step;
 use std::io;
 use std::io::Write;
 
@@ -18,13 +17,11 @@ fn part_of(s: &[u8], h: ChunkHead, i: usize) -> u32
     ensures { (result ≡ part s.now h h.e i) × (result ≤ 255 * 255) }
 {
     let mut sum: u32 = 0;
-    let mut k: usize = 0;
-    while k < h.e {
+    for k in 0..h.e {
         let o = h.offsets;
         if s[o + k] as usize == i {
             sum += bits::packed_value(s, h.parts, h.b2, k);
         }
-        k += 1;
     }
     sum
 }
@@ -92,10 +89,8 @@ fn values<W: Write>(to: &mut W, s: &[u8], n: usize) -> io::Result<()> {
 fn any_large(ds: &[u8]) -> bool
     ensures { result ≡ false → AllLe 63 ds.now }
 {
-    let mut i = ds.len();
-    while 0 < i {
-        i -= 1;
-        if 63 < ds[i] {
+    for &d in ds {
+        if 63 < d {
             return true;
         }
     }
@@ -115,7 +110,7 @@ fn written<W: Write>(to: &mut W, ds: &[u8]) -> io::Result<()> {
         return Ok(());
     }
     let size = chunk_write::put_chunk(ds, &mut out, 0);
-    vector_text::print(to, b"; written ")?;
+    write!(to, "; written ")?;
     vector_text::print_bytes(to, &out[..size])
 }
 
@@ -126,8 +121,8 @@ fn judged<W: Write>(to: &mut W, s: &[u8], n: usize) -> io::Result<()> {
         return Ok(());
     }
     match chunk_read::chunk_at(s, 0, n, &mut out, 0) {
-        Step::Refused(r) => write!(to, "; refused {r}"),
-        Step::Next(at) => {
+        Err(refusal) => write!(to, "; {refusal}"),
+        Ok(at) => {
             write!(to, "; accepted, bytes {at}")?;
             written(to, &out[..n])
         }

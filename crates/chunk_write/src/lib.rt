@@ -11,6 +11,7 @@ ghost use Rattle.bitmap_laws.proofs.Length.{size_at};
 ghost use Rattle.bitmap_laws.proofs.Values.{AllLe};
 ghost use Rattle.chunk_parts.specs.Kept.{offsets};
 ghost use Rattle.chunk_write.specs.Exceptions.{exceptions_of};
+ghost use Rattle.chunk_write.specs.Widths.{Chosen};
 
 // Three bytes.
 pub fn put3(out: &mut [u8], at: usize, x: u8, y: u8, z: u8) -> usize
@@ -32,6 +33,30 @@ fn second_of(w: u32, b: u32, e: usize) -> u32
         return 0;
     }
     w - b
+}
+
+// The two widths of a chunk's values, and how many of them are exceptions.
+#[derive(Clone, Copy)]
+struct Widths {
+    first: u32,
+    second: u32,
+    exceptions: usize,
+}
+
+// Those of descriptors less m, the least of them.
+fn choose_widths(ds: &[u8], m: u8) -> Widths
+    requires { (length ds.now ≤ 256) × (m ≡ least ds.now) }
+    ensures { Chosen (map (λ d. d - m) ds.now) result }
+{
+    let w = width_choice::largest_width(ds, m);
+    let first = width_choice::cheapest_at(ds, m, w);
+    let exceptions = width_choice::wider_of(ds, m, first);
+    let second = second_of(w, first, exceptions);
+    Widths {
+        first,
+        second,
+        exceptions,
+    }
 }
 
 // The low parts of the values, packed.
@@ -90,11 +115,8 @@ fn put_values(vs: &[u8], ws: &[u8], m: u8, out: &mut [u8], at: usize) -> usize
     requires { (length vs.now ≤ 256) × (ws.now ≡ map width vs.now) × (0 ≡ least vs.now) × (largest (map width vs.now) ≤ 6) × (at + size_at vs.now (cheapest vs.now (largest (map width vs.now))) ≤ length out.old) }
     ensures { (result ≡ size_at vs.now (cheapest vs.now (largest (map width vs.now)))) × (out.new ≡ written out.old at (chunk_of vs.now m (cheapest vs.now (largest (map width vs.now))))) }
 {
-    let w = width_choice::largest_width(vs, 0);
-    let b = width_choice::cheapest_at(vs, 0, w);
-    let e = width_choice::wider_of(vs, 0, b);
-    let b2 = second_of(w, b, e);
-    put_at(vs, ws, m, b, b2, e, out, at)
+    let t = choose_widths(vs, 0);
+    put_at(vs, ws, m, t.first, t.second, t.exceptions, out, at)
 }
 
 // How many bytes a chunk of descriptors less m, the least of them, takes.
@@ -102,11 +124,9 @@ fn values_size(ds: &[u8], m: u8) -> usize
     requires { (length ds.now ≤ 256) × (m ≡ least ds.now) }
     ensures { result ≡ size_at (map (λ d. d - m) ds.now) (cheapest (map (λ d. d - m) ds.now) (largest (map width (map (λ d. d - m) ds.now)))) }
 {
-    let w = width_choice::largest_width(ds, m);
-    let b = width_choice::cheapest_at(ds, m, w);
-    let e = width_choice::wider_of(ds, m, b);
-    let b2 = second_of(w, b, e);
-    3 + width_choice::packed_size(ds.len(), b) + e + width_choice::packed_size(e, b2)
+    let t = choose_widths(ds, m);
+    let low = width_choice::packed_size(ds.len(), t.first);
+    3 + low + t.exceptions + width_choice::packed_size(t.exceptions, t.second)
 }
 
 // A chunk of descriptors.

@@ -1,68 +1,94 @@
--- One chunk more.
+-- One chunk more: what is left of the descriptors is a chunk, and what is left behind it.
 -- Assumes nothing.
-use mathlib.Core.Path.{◌≡◌, refl, sym, ap, ◌∙◌}
-use mathlib.Core.Logic.{◌⊎◌, ⊎_elim}
+use mathlib.Core.Path.{◌≡◌, refl, ap, ◌∙◌}
+use mathlib.Core.Logic.{⊎_elim}
 use mathlib.Core.List.{List, [], ◌∷◌, ◌++◌, append-nil}
-use Prim.Native.Nat.{ℕ, suc, ◌+◌, ◌-◌, ◌/◌, ◌≤◌, ◌<◌}
+use Prim.Native.Nat.{ℕ, suc, ◌+◌, ◌-◌, ◌/◌, ◌≤◌, ◌<◌, min}
 use native.Mathlib.Omega.{arith}
-use lib.ListN.{length, take, drop, length-append, length-drop, drop_of_length-le}
-use lib.Seq.{drop-drop, take_all, length-take-le}
-use Rattle.bitmap_spec.proofs.Window
+use lib.ListN.{length, take, drop, length-append, length-drop}
+use lib.Seq.{take_at, drop_at, length-take-le}
+use Rattle.bitmap_spec.proofs.Window.{below_or}
 use Rattle.bitmap_spec.specs.Form.{write_chunk, write_chunks}
 use Rattle.bitmap_laws.proofs.Length.{chunks_size}
 use Rattle.bitmap_laws.proofs.Values.{AllLe}
 use Rattle.bitmap_laws.proofs.Written.{all_take, all_drop}
 use Rattle.bitmap_laws.proofs.Output.{Along, along-room, along-length}
-use Rattle.chunks_write.specs.Rest.{rest_chunks}
 
-pub rest_all : (ds : List ℕ) → rest_chunks ds 0 ≡ write_chunks (length ds / 256) ds
-unfolding rest_chunks
-rest_all ds = let e : length ds - 0 ≡ length ds = omega arith in rw e
+-- all chunks of descriptors
+abbrev pub chunks_of : List ℕ → List ℕ
+chunks_of ds = write_chunks (length ds / 256) ds
 
-pub rest-none : (ds : List ℕ) (i : ℕ) → length ds ≤ i → rest_chunks ds i ≡ []
-unfolding rest_chunks write_chunks
-rest-none ds i h =
-    let e : (length ds - i) / 256 ≡ 0 = omega arith in
-    rw (e, drop_of_length-le ds h)
+pub chunks_none : (ds : List ℕ) → length ds ≡ 0 → chunks_of ds ≡ []
+unfolding write_chunks
+chunks_none [] e = refl
+chunks_none (d ∷ ds) e = absurd (omega arith)
 
 last-chunk : (l : List ℕ) → 0 < length l → write_chunks 0 l ≡ write_chunk l
 unfolding write_chunks
 last-chunk [] h = absurd (omega arith)
 last-chunk (x ∷ xs) h = refl
 
-pub rest-step : (ds : List ℕ) (i e : ℕ) → i < length ds → e ≤ length ds → e ≤ i + 256 → (e ≡ i + 256) ⊎ (e ≡ length ds) → rest_chunks ds i ≡ write_chunk (take (e - i) (drop i ds)) ++ rest_chunks ds e
-unfolding rest_chunks write_chunks
-rest-step ds i e h g m w = ⊎_elim full (λ q. ⊎_elim (λ l. short q l) (λ l. full (omega arith)) (Rattle.bitmap_spec.proofs.Window.below_or e (i + 256))) w
-  where
-    full : e ≡ i + 256 → rest_chunks ds i ≡ write_chunk (take (e - i) (drop i ds)) ++ rest_chunks ds e
-    full q =
-        let a : (length ds - i) / 256 ≡ suc ((length ds - e) / 256) = omega arith in
-        let b : e - i ≡ 256 = omega arith in
-        rw (a, b) (ap (λ (l : List ℕ). write_chunk (take 256 (drop i ds)) ++ write_chunks ((length ds - e) / 256) l) (drop-drop 256 i ds ∙ ap (λ (k : ℕ). drop k ds) (sym q)))
-
-    short : e ≡ length ds → e < i + 256 → rest_chunks ds i ≡ write_chunk (take (e - i) (drop i ds)) ++ rest_chunks ds e
-    short q l =
-        let a : (length ds - i) / 256 ≡ 0 = omega arith in
-        let n : length (drop i ds) ≡ length ds - i = length-drop i ds in
-        rw (rest-none ds e (omega arith), append-nil (write_chunk (take (e - i) (drop i ds))), a, take_all (e - i) (drop i ds) (omega arith)) (last-chunk (drop i ds) (omega arith))
-
-pub part-le : (ds : List ℕ) (i e : ℕ) → AllLe 63 ds → AllLe 63 (take (e - i) (drop i ds))
-part-le ds i e a = all_take 63 (e - i) (drop i ds) (all_drop 63 i ds a)
-
-pub part_length : (ds : List ℕ) (i e : ℕ) → i < e → e ≤ length ds → length (take (e - i) (drop i ds)) ≡ e - i
-part_length ds i e h g = length-take-le (e - i) (drop i ds) (rw (length-drop i ds) (omega arith))
-
-pub all-few : (ds : List ℕ) → length ds ≤ 8192 → AllLe 63 ds → length (write_chunks (length ds / 256) ds) ≤ 6240
+pub all-few : (ds : List ℕ) → length ds ≤ 8192 → AllLe 63 ds → length (chunks_of ds) ≤ 6240
 all-few ds h a = omega (arith, chunks_size (length ds / 256) ds a (omega arith) (omega arith))
 
--- the size so far
-pub size-turn : (ds : List ℕ) (i e t x all : ℕ) → i < length ds → e ≤ length ds → e ≤ i + 256 → (e ≡ i + 256) ⊎ (e ≡ length ds)
-    → t + length (rest_chunks ds i) ≡ all → x ≡ length (write_chunk (take (e - i) (drop i ds))) → (t + x) + length (rest_chunks ds e) ≡ all
-size-turn ds i e t x all h g m w q z =
-    omega (arith, ap length (rest-step ds i e h g m w), length-append (write_chunk (take (e - i) (drop i ds))) (rest_chunks ds e))
+-- a part of 256 descriptors, or all that are left, comes off the front
+module _ (ds part rest : List ℕ) (e : ds ≡ part ++ rest) (n : length part ≡ min 256 (length ds)) (some : 0 < length ds)
+  where
+    long : length ds ≡ length part + length rest
+    long = ap length e ∙ length-append part rest
 
--- the next chunk has room
-pub next-room : {before out : List ℕ} {at t : ℕ} {all : List ℕ} (ds : List ℕ) (i e : ℕ) → Along before out at t (rest_chunks ds i) all → at + length all ≤ length before
-    → i < length ds → e ≤ length ds → e ≤ i + 256 → (e ≡ i + 256) ⊎ (e ≡ length ds) → at + t + length (write_chunk (take (e - i) (drop i ds))) ≤ length out
-next-room ds i e a room h g m w =
-    omega (arith, along-room a, along-length a room, ap length (rest-step ds i e h g m w), length-append (write_chunk (take (e - i) (drop i ds))) (rest_chunks ds e))
+    part_is : take (length part) ds ≡ part
+    part_is = rw e (take_at part rest (length part) refl)
+
+    rest_is : drop (length part) ds ≡ rest
+    rest_is = rw e (drop_at part rest (length part) refl)
+
+    pub part-le : AllLe 63 ds → AllLe 63 part
+    part-le a = rw part_is at (all_take 63 (length part) ds a)
+
+    pub rest-le : AllLe 63 ds → AllLe 63 rest
+    rest-le a = rw rest_is at (all_drop 63 (length part) ds a)
+
+    pub chunks_step : chunks_of ds ≡ write_chunk part ++ chunks_of rest
+    unfolding write_chunks
+    chunks_step = ⊎_elim short full (below_or (length ds) 256)
+      where
+        nothing : (l : List ℕ) → length l ≡ 0 → l ≡ []
+        nothing [] h = refl
+        nothing (x ∷ xs) h = absurd (omega arith)
+
+        short : length ds < 256 → chunks_of ds ≡ write_chunk part ++ chunks_of rest
+        short h =
+            let none : length rest ≡ 0 = omega (arith, long, n) in
+            let one : length ds / 256 ≡ 0 = omega arith in
+            let all : ds ≡ part = e ∙ ap (λ (l : List ℕ). part ++ l) (nothing rest none) ∙ append-nil part in
+            rw (chunks_none rest none, append-nil (write_chunk part), one)
+            (last-chunk ds some ∙ ap write_chunk all)
+
+        full : 256 ≤ length ds → chunks_of ds ≡ write_chunk part ++ chunks_of rest
+        full h =
+            let whole : length part ≡ 256 = omega (arith, n) in
+            let more : length ds / 256 ≡ suc (length rest / 256) = omega (arith, long, whole) in
+            rw (more, rw whole at part_is, rw whole at rest_is)
+
+    -- the size so far
+    pub size-turn : (t x all : ℕ) → t + length (chunks_of ds) ≡ all → x ≡ length (write_chunk part)
+        → t + x + length (chunks_of rest) ≡ all
+    size-turn t x all q z =
+        omega (arith, ap length chunks_step, length-append (write_chunk part) (chunks_of rest))
+
+    -- the next chunk has room
+    pub next-room : {before out : List ℕ} {at t : ℕ} {all : List ℕ} → Along before out at t (chunks_of ds) all
+        → at + length all ≤ length before → at + t + length (write_chunk part) ≤ length out
+    next-room a room =
+        omega (
+          arith,
+          along-room a,
+          along-length a room,
+          ap length chunks_step,
+          length-append (write_chunk part) (chunks_of rest),
+        )
+
+-- ---- a part by its bounds
+pub part_length : (ds : List ℕ) (i e : ℕ) → i < e → e ≤ length ds → length (take (e - i) (drop i ds)) ≡ e - i
+part_length ds i e h g = length-take-le (e - i) (drop i ds) (rw (length-drop i ds) (omega arith))

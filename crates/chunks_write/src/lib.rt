@@ -23,11 +23,8 @@ pub fn chunks_size(ds: &[u8]) -> usize
     ensures { (result ≡ length (write_chunks (length ds.now / 256) ds.now)) × (result ≤ 6240) }
 {
     let mut t: usize = 0;
-    let mut i: usize = 0;
-    while i < ds.len() {
-        let e = chunk_end(i, ds.len());
-        t += chunk_write::chunk_size(&ds[i..e]);
-        i = e;
+    for chunk in ds.chunks(256) {
+        t += chunk_write::chunk_size(chunk);
     }
     t
 }
@@ -38,11 +35,8 @@ pub fn put_chunks(ds: &[u8], out: &mut [u8], at: usize) -> usize
     ensures { (result ≡ length (write_chunks (length ds.now / 256) ds.now)) × (out.new ≡ written out.old at (write_chunks (length ds.now / 256) ds.now)) }
 {
     let mut t: usize = 0;
-    let mut i: usize = 0;
-    while i < ds.len() {
-        let e = chunk_end(i, ds.len());
-        t += chunk_write::put_chunk(&ds[i..e], out, at + t);
-        i = e;
+    for chunk in ds.chunks(256) {
+        t += chunk_write::put_chunk(chunk, out, at + t);
     }
     t
 }

@@ -2,13 +2,13 @@
 -- Assumes nothing.
 use mathlib.Core.Path.{◌≡◌, refl, sym, ap, ◌∙◌}
 use mathlib.Core.Bool.{Bool, true, false}
-use mathlib.Core.Logic.{◌⊎◌, ⊎_elim}
+use mathlib.Core.Logic.{◌⊎◌, inl, inr, ⊎_elim}
 use mathlib.Core.List.{List, [], ◌∷◌, ◌++◌}
-use Prim.Native.Nat.{ℕ, suc, ◌+◌, ◌-◌, ◌*◌, ◌/◌, ◌%◌, ◌≤◌, ◌<◌}
+use Prim.Native.Nat.{ℕ, suc, ◌+◌, ◌-◌, ◌*◌, ◌/◌, ◌%◌, ◌≤◌, ◌<◌, min}
 use native.Mathlib.Omega.{arith}
 use borrow.Author.Tests.{leb-true}
-use lib.ListN.{length, take, drop, length-drop, drop_of_length-le}
-use lib.Seq.{drop-drop, take_all}
+use lib.ListN.{length, take, drop, length-append, length-drop, drop_of_length-le}
+use lib.Seq.{drop-drop, take_all, take_at, drop_at}
 use Rattle.common.specs.Bytes.{ceil8}
 use Rattle.common.specs.Outcome.{both, found}
 use Rattle.common.proofs.Lists.{both_left}
@@ -159,6 +159,55 @@ module _ (s ds : List ℕ) (at i e : ℕ) (some : i < e) (upto : e ≤ length ds
     pub rest-go : head_is h (take (e - i) (drop i ds)) ≡ true
         → rest_heads s (chunk_end (head_at s at (e - i))) ds e ≡ rest_heads s at ds i
     rest-go holds = sym (rest-next ∙ rw (← is, holds))
+
+-- ---- a part of 256 descriptors, or all that are left, comes off the front
+module _ (s ds part rest : List ℕ) (at : ℕ) (e : ds ≡ part ++ rest) (n : length part ≡ min 256 (length ds))
+    (some : 0 < length ds) where
+  long : length ds ≡ length part + length rest
+  long = ap length e ∙ length-append part rest
+
+  full_or_all : (length part ≡ 0 + 256) ⊎ (length part ≡ length ds)
+  full_or_all = ⊎_elim (λ h. inr (omega arith)) (λ h. inl (omega arith)) (below_or (length ds) 256)
+
+  none : length ds - 0 ≡ length ds
+  none = omega arith
+
+  none' : length part - 0 ≡ length part
+  none' = omega arith
+
+  behind : length ds - length part ≡ length rest
+  behind = omega (arith, long)
+
+  pub front-next : Left s at (length ds)
+      → Taken s at (length part) × Left s (chunk_end (head_at s at (length part))) (length rest)
+  front-next l =
+      rw (none', behind) at
+      (left-next s at (length ds) 0 (length part) (omega (arith, n)) (omega (arith, long)) (omega (arith, n))
+      full_or_all (rw none l))
+
+  heads_on : heads_are s at (length ds / 256) ds
+      ≡ both (head_is (head_at s at (length part)) part)
+      (heads_are s (chunk_end (head_at s at (length part))) (length rest / 256) rest)
+  unfolding rest_heads
+  heads_on =
+      let part_is : take (length part) ds ≡ part = rw e (take_at part rest (length part) refl) in
+      let rest_is : drop (length part) ds ≡ rest = rw e (drop_at part rest (length part) refl) in
+      rw (none, none', part_is, behind, rest_is) at
+      (rest-next s ds at 0 (length part) (omega (arith, n)) (omega (arith, long)) (omega (arith, n)) full_or_all)
+
+  -- by what the head's comparison says
+  module _ (h : ChunkHead) (is : h ≡ head_at s at (length part)) where
+    pub front-stop : head_is h part ≡ false → heads_are s at (length ds / 256) ds ≡ false
+    front-stop fails = heads_on ∙ rw (← is, fails)
+
+    pub front-go : head_is h part ≡ true
+        → heads_are s (chunk_end (head_at s at (length part))) (length rest / 256) rest ≡ heads_are s at (length ds / 256) ds
+    front-go holds = sym (heads_on ∙ rw (← is, holds))
+
+pub heads_none : (s ds : List ℕ) (at : ℕ) → length ds ≡ 0 → heads_are s at (length ds / 256) ds ≡ true
+unfolding heads_are
+heads_none s [] at h = refl
+heads_none s (d ∷ ds) at h = absurd (omega arith)
 
 -- ---- where the next chunk begins, as it is computed
 module _ (s : List ℕ) (at n : ℕ) (t : Taken s at n) (h : ChunkHead) (is : h ≡ head_at s at n) where

@@ -10,7 +10,6 @@ ghost use Rattle.form_check.specs.Heads.{is_settled, head_is, heads_are};
 ghost use Rattle.form_check.specs.Read.{Reads};
 
 use bitmap_spec::ChunkHead;
-use judge::Judged;
 
 // Whether no descriptor is over 32 and the last, if any, is not 0.
 fn is_settled(ds: &[u8]) -> bool
@@ -30,23 +29,14 @@ fn is_settled(ds: &[u8]) -> bool
 fn exceptions_are(h: ChunkHead, e: usize, b2: u32) -> bool
     ensures { result ≡ both (eqb h.e e) (eqb h.b2 (pick (eqb e 0) 0 b2)) }
 {
-    if h.e != e {
-        return false;
-    }
-    if e == 0 {
-        return h.b2 == 0;
-    }
-    h.b2 == b2
+    h.e == e && h.b2 == if e == 0 { 0 } else { b2 }
 }
 
 // Whether a head is that of a chunk whose values are all 0.
 fn is_flat(h: ChunkHead) -> bool
     ensures { result ≡ both (eqb h.b1 0) (both (eqb h.e 0) (eqb h.b2 0)) }
 {
-    if h.b1 != 0 {
-        return false;
-    }
-    exceptions_are(h, 0, 0)
+    h.b1 == 0 && exceptions_are(h, 0, 0)
 }
 
 // Whether a chunk's head is that of the written chunk of these descriptors.
@@ -76,15 +66,12 @@ fn heads_are(s: &[u8], ds: &[u8]) -> bool
     ensures { result ≡ heads_are s.now 6 (length ds.now / 256) ds.now }
 {
     let mut at: usize = 6;
-    let mut i: usize = 0;
-    while i < ds.len() {
-        let e = chunks_write::chunk_end(i, ds.len());
-        let h = chunk_read::head_at(s, at, e - i);
-        if !head_is(h, &ds[i..e]) {
+    for chunk in ds.chunks(256) {
+        let h = chunk_read::head_at(s, at, chunk.len());
+        if !head_is(h, chunk) {
             return false;
         }
         at = h.parts + (h.e * (h.b2 as usize) + 7) / 8;
-        i = e;
     }
     true
 }
@@ -94,20 +81,11 @@ fn form_in(s: &[u8], d: &mut [u8]) -> bool
     requires { RoomFor s.now (length d.old) }
     ensures { result ≡ is_form s.now }
 {
-    match judge::judge_read(s, d) {
-        Judged::Refused(_) => false,
-        Judged::Accepted {
-            count,
-            start: _,
-            cardinality: _,
-        } => {
-            let ds = &d[..count];
-            if !is_settled(ds) {
-                return false;
-            }
-            heads_are(s, ds)
-        }
-    }
+    let Ok(judged) = judge::judge_read(s, d) else {
+        return false;
+    };
+    let ds = &d[..judged.count];
+    is_settled(ds) && heads_are(s, ds)
 }
 
 // Whether s is the written form of the set that it stands for.

@@ -15,14 +15,12 @@ pub fn trim(ds: &[u8], n: usize) -> usize
     requires { n ≤ length ds.now }
     ensures { Trimmed ds.now n result }
 {
-    let mut m = n;
-    while 0 < m {
-        if ds[m - 1] != 0 {
-            return m;
+    for i in (0..n).rev() {
+        if ds[i] != 0 {
+            return i + 1;
         }
-        m -= 1;
     }
-    m
+    0
 }
 
 // The bytes that the containers of these descriptors take.
@@ -31,15 +29,8 @@ fn body_size(ds: &[u8]) -> usize
     ensures { (result ≡ sum size_of ds.now) × (result ≤ 262144) }
 {
     let mut t: usize = 0;
-    let mut i: usize = 0;
-    while i < ds.len() {
-        let mut x: usize = 32;
-        let v = ds[i];
-        if v < 32 {
-            x = v as usize;
-        }
-        t += x;
-        i += 1;
+    for &d in ds {
+        t += if d < 32 { d as usize } else { 32 };
     }
     t
 }

@@ -11,28 +11,24 @@ use native.Mathlib.Nat.{add-zero, zero-add, add-suc, suc-add, add_assoc, sub-zer
 use native.Mathlib.Numerals.{add-one}
 use native.Mathlib.Omega.{arith}
 use borrow.Author.Tests.{le-leb, lt-leb, lt-ltb, eq-eqb, ne_eqb}
-use lib.ListN.{length, get_or, take, drop, length-drop}
+use lib.ListN.{length, get_or, take, drop}
 use lib.Seq.{drop-cons, take-suc, length-take-le, get_or-take}
 use lib.Dec.{leb, eqb}
 use mir.Val.{bool_byte}
 use lib.Bits.{bit_or, or_comm, or_add_and, and_le_r}
 use Rattle.common.specs.Lists.{sum, rising}
 use Rattle.common.specs.Outcome.{Outcome, refused, found, need, pick, both, one}
-use Rattle.bitmap_spec.specs.Judge.{size_of, container, container_ok}
+use Rattle.bitmap_spec.specs.Judge.{size_of}
 use Rattle.bitmap_spec.proofs.Reading.{walk}
 use Rattle.bitmap_spec.proofs.Tally.{tally, tally-cat}
 use Rattle.bitmap_spec.proofs.Window.{below_or}
 use Rattle.judge.specs.Post.{fall, edge_falls, Sparse, size_at}
-use Rattle.judge.proofs.Walking.{size-sparse, size-le, rest-cons, rest-none}
+use Rattle.judge.proofs.Walking.{size-sparse, size-le, ok-sparse, size-container, rest-cons, rest-none}
 
 same_or : (a b : ℕ) → (a ≡ b) ⊎ (a ≡ b → ⊥)
 same_or a b =
     ⊎_elim (λ l. inr (λ e. omega arith))
     (λ g. ⊎_elim (λ l. inr (λ e. omega arith)) (λ l. inl (omega arith)) (below_or b a)) (below_or a b)
-
-pub one-le : (b : Bool) → one b ≤ 1
-one-le true = omega arith
-one-le false = omega arith
 
 pub tally-cons : (f : ℕ → ℕ) (k n : ℕ) → tally f k (suc n) ≡ f k + tally f (suc k) n
 unfolding tally
@@ -140,15 +136,6 @@ both-none f i t e x l = ⊎_elim none some (same_or i 0)
         let p : 0 < i = omega arith in
         rw (ne_eqb i 0 z, ne_eqb (f + i + t) (f + e) (λ y. omega arith))
 
-ok-sparse : (s : List ℕ) (at d : ℕ) → ((k : ℕ) → get_or s k 0 < 256) → d < 32 → at + d ≤ length s
-    → container_ok s at d ≡ eqb (tally (fall s) (at + 1) (d - 1)) 0
-unfolding container_ok container
-ok-sparse s at d h l g = rw (lt-ltb d 32 l) (rises-if s at d h g)
-
-pub size-container : (s : List ℕ) (at d : ℕ) → d < 32 → at + d ≤ length s → length (container s at d) ≡ d
-unfolding container
-size-container s at d l g = rw (lt-ltb d 32 l) (length-take-le d (drop at s) (rw length-drop (omega arith)))
-
 walk-sparse : (s : List ℕ) (at card : ℕ) (ds : List ℕ) → ((k : ℕ) → get_or s k 0 < 256) → AllSparse ds
     → at + sum size_of ds ≤ length s
     → walk s at card ds ≡ need (eqb (tally (fall s) at (sum size_of ds)) (edge_falls s at ds)) 10
@@ -162,7 +149,7 @@ walk-sparse s at card (d ∷ ds) b h g =
     let r = walk-sparse s (at + d) (card + d) ds b (tail d ds h) (omega arith) in
     rw (
       z,
-      ok-sparse s at d b l (omega arith),
+      ok-sparse s at d l ∙ rises-if s at d b (omega arith),
       size-container s at d l (omega arith),
       r,
       all-falls s at d (sum size_of ds),

@@ -7,22 +7,21 @@ use Prim.Native.Nat.{ℕ, zero, suc, ◌+◌, ◌-◌, ◌*◌, ◌/◌, ◌%◌
 use native.Mathlib.Nat.{add-zero, zero-add, add_assoc}
 use native.Mathlib.Numerals.{add-one}
 use native.Mathlib.Omega.{arith}
-use borrow.Author.Tests.{lt-ltb}
 use lib.ListN.{length, get_or, take, drop}
 use lib.Bits.{bit_and, and_block, and_high}
 use lib.Pow.{shr_mod}
 use lib.Count.{ones, ones_in}
 use Rattle.common.specs.Lists.{sum, rising}
 use Rattle.common.specs.Bytes.{little_at}
-use Rattle.common.specs.Outcome.{refused}
-use Rattle.bitmap_spec.specs.Judge.{size_of, container, container_ok}
+use Rattle.bitmap_spec.specs.Judge.{size_of}
 use Rattle.bitmap_spec.proofs.Reading.{walk}
 use Rattle.bitmap_spec.proofs.Tally.{tally}
 use Rattle.words.proofs.Words.{ones_low}
-use Rattle.judge.specs.declared.Passed.{Passed}
 use Rattle.judge.specs.Post.{Thin, Passes}
-use Rattle.judge.proofs.Walking.{size-sparse, sum-cons, walk-bad, walk-good}
-use Rattle.judge.proofs.Descents.{tally-cons, rises-short, size-container}
+use Rattle.judge.proofs.Walking.{size-sparse, size-container, ok-sparse, sum-cons, walk-bad, walk-good}
+use Rattle.judge.proofs.Descents.{tally-cons, rises-short}
+use Rattle.std.specs.Prelude.{Some}
+use Rattle.std.specs.Bool.{then_some}
 
 -- ---- eight descriptors as one number
 
@@ -81,19 +80,16 @@ thin-ones d at (suc n) h =
 
 module _ (s d : List ℕ) (n : ℕ) (bytes : (k : ℕ) → get_or s k 0 < 256) (g : n ≤ length d) where
   -- one container
-  ok-is : (at t : ℕ) → t < 32 → container_ok s at t ≡ rising 256 0 (take t (drop at s))
-  unfolding container_ok container
-  ok-is at t l = rw (lt-ltb t 32 l)
-
   pub pass-one : (at i t : ℕ) (ok : Bool) → i < n → get_or d i 0 ≡ t → t < 32
       → at + sum size_of (drop i (take n d)) ≡ length s
-      → ok ≡ rising 256 0 (take t (drop at s)) → Passes s d n at i (record { ok = ok; count = 1; bytes = t })
-  pass-one at i t ok l q b room e =
+      → ok ≡ rising 256 0 (take t (drop at s))
+      → Passes s d n at i (then_some ok (record { count = 1; bytes = t }))
+  pass-one at i t false l q b room e = λ card. walk-bad d n i g s at card l (rw q (ok-sparse s at t b ∙ sym e))
+  pass-one at i t true l q b room e =
       let z = sum-cons d n i g l in
       let y = size-sparse (get_or d i 0) (rw q b) in
       let in-room : at + t ≤ length s = omega (arith, z, y) in record {
-        bad = λ r card. walk-bad d n i g s at card l (rw q (ok-is at t b ∙ sym e ∙ r));
-        good = λ r card. walk-good d n i g s at card l (rw q (ok-is at t b ∙ sym e ∙ r))
+        good = λ card. walk-good d n i g s at card l (rw q (ok-sparse s at t b ∙ sym e))
             ∙ rw (q, size-sparse t b, size-container s at t b in-room);
         some = omega arith;
         upto = omega arith;
@@ -124,7 +120,7 @@ module _ (s d : List ℕ) (n : ℕ) (bytes : (k : ℕ) → get_or s k 0 < 256) (
       let before = thin-sum i k (λ j m. h j (omega arith)) (omega arith) in
       let z = sum-cons d n (i + k) g (omega arith) in
       let in-room : at + added d i k + t ≤ length s = omega (arith, before, z, y) in
-      let good = ok-is (at + added d i k) t (omega arith)
+      let good = ok-sparse s (at + added d i k) t (omega arith)
       ∙ sym (rises-short s (at + added d i k) t bytes in-room (omega arith)) in
       thin-walk at card i k (λ j m. h j (omega arith)) (omega arith) room
       ∙ walk-good d n (i + k) g s (at + added d i k) (card + added d i k) (omega arith) good
@@ -137,10 +133,9 @@ module _ (s d : List ℕ) (n : ℕ) (bytes : (k : ℕ) → get_or s k 0 < 256) (
       )
 
   pub pass-eight : (at i b : ℕ) → i + 8 ≤ n → Thin d i 8 → at + sum size_of (drop i (take n d)) ≡ length s
-      → b ≡ added d i 8 → Passes s d n at i (record { ok = true; count = 8; bytes = b })
+      → b ≡ added d i 8 → Passes s d n at i (Some (record { count = 8; bytes = b }))
   pass-eight at i b l h room e = record {
-    bad = λ r. absurd (let z : ◌≡◌ {A = ℕ} 0 1 = cc in omega arith);
-    good = λ r card. thin-walk at card i 8 h l room ∙ rw (← e);
+    good = λ card. thin-walk at card i 8 h l room ∙ rw (← e);
     some = omega arith;
     upto = l;
     room = omega (arith, thin-sum i 8 h l);
@@ -151,18 +146,6 @@ pub thin-if : (d : List ℕ) (i x : ℕ) → ((k : ℕ) → get_or d k 0 < 256) 
     → bit_and x 18374403900871474942 ≡ 0 → Thin d i 8
 unfolding mask
 thin-if d i x h e z = thin-bytes d i 8 h (rw (← e) z)
-
--- the walk goes on behind what was passed, with as many members as bytes
-module _ (s d : List ℕ) (n from at i : ℕ) (r : Passed) (p : Passes s d n at i r) (l : from ≤ at)
-    (v : walk s at (at - from) (drop i (take n d)) ≡ walk s from 0 (take n d)) where
-  pub thin-bad : r.ok ≡ false → refused 10 ≡ walk s from 0 (take n d)
-  thin-bad e = sym (sym v ∙ p.bad e (at - from))
-
-  pub thin-on : r.ok ≡ true
-      → walk s (at + r.bytes) (at + r.bytes - from) (drop (i + r.count) (take n d)) ≡ walk s from 0 (take n d)
-  thin-on e =
-      let q : at + r.bytes - from ≡ at - from + r.bytes = omega arith in
-      rw q (sym (p.good e (at - from)) ∙ v)
 
 pub thin-start : (s d : List ℕ) (n from : ℕ) → walk s from (from - from) (take n d) ≡ walk s from 0 (take n d)
 thin-start s d n from =

@@ -4,10 +4,10 @@
 ghost use Rattle.std.specs.Prelude.{◌≡◌};
 ghost use Rattle.row_spec.specs.Varint.{varint_at};
 
-use row_spec::Varint;
+use row_spec::{ReadFault, Varint};
 
 // The number, the bytes it used and whether its form is the shortest; or cut short; or ill-formed. Refuses nothing.
-pub fn read(bytes: &[u8]) -> Varint
+pub fn read(bytes: &[u8]) -> Result<Varint, ReadFault>
     ensures { result ≡ varint_at bytes.now 0 }
 {
     numbers::varint(bytes, 0)

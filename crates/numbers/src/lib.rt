@@ -1,4 +1,5 @@
-// Numbers in bytes: either byte order at any width, two's complement, float patterns, varints, bits from the low end. Inner: no entry point.
+// Numbers in bytes: either byte order at any width, two's complement, float patterns, varints, bits from the low end.
+// Inner: no entry point.
 #![tactic(auto)]
 
 ghost use Rattle.std.specs.Prelude.{◌≡◌, ◌≤◌, ◌<◌, ◌+◌, ◌*◌, ◌^◌, ◌/◌, ◌%◌, length, leb};
@@ -8,7 +9,7 @@ ghost use Rattle.common.specs.Bytes.{little_at, big_at, signed_of, ceil8, low_bi
 ghost use Rattle.row_spec.specs.Varint.{varint_at, last_group};
 ghost use Rattle.row_spec.specs.Value.{single, double, word_at};
 
-use row_spec::{Field, Varint};
+use row_spec::{Field, ReadFault, Varint};
 
 // A byte as a wide number.
 pub fn wide(x: u8) -> u64
@@ -21,10 +22,7 @@ pub fn wide(x: u8) -> u64
 pub fn has(s: &[u8], at: usize, w: usize) -> bool
     ensures { result ≡ leb (at + w) (length s.now) }
 {
-    if s.len() < at {
-        return false;
-    }
-    w <= s.len() - at
+    at <= s.len() && w <= s.len() - at
 }
 
 // The number of w bytes, highest first.
@@ -33,10 +31,8 @@ pub fn big_endian(s: &[u8], at: usize, w: usize) -> u64
     ensures { (result ≡ big_at s.now at w) × (result < 256 ^ w) }
 {
     let mut v: u64 = 0;
-    let mut j = 0;
-    while j < w {
+    for j in 0..w {
         v = v * 256 + wide(s[at + j]);
-        j += 1;
     }
     v
 }
@@ -47,9 +43,7 @@ pub fn little_endian(s: &[u8], at: usize, w: usize) -> u64
     ensures { (result ≡ little_at s.now at w) × (result < 256 ^ w) }
 {
     let mut v: u64 = 0;
-    let mut j = w;
-    while 0 < j {
-        j -= 1;
+    for j in (0..w).rev() {
         v = v * 256 + wide(s[at + j]);
     }
     v
@@ -126,31 +120,31 @@ pub fn double_bits(x: f64) -> u64
 }
 
 // A varint that ends in the group b, which has the weight w; the groups before it make v.
-fn last_group(b: u64, w: u64, v: u64, next: usize) -> Varint
+fn last_group(b: u64, w: u64, v: u64, next: usize) -> Result<Varint, ReadFault>
     requires { (b < 128) × (w ≤ 268435456) × (v < w) }
     ensures { result ≡ last_group b w v next }
 {
     let n = v + b * w;
     if 4294967295 < n {
-        return Varint::IllFormed;
+        return Err(ReadFault::IllFormed);
     }
-    if 0 < b {
-        return Varint::Number(n as u32, next, true);
-    }
-    Varint::Number(n as u32, next, w <= 1)
+    Ok(Varint {
+        number: n as u32,
+        next,
+        shortest: 0 < b || w <= 1,
+    })
 }
 
 // The varint at `at`.
-pub fn varint(s: &[u8], at: usize) -> Varint
+pub fn varint(s: &[u8], at: usize) -> Result<Varint, ReadFault>
     ensures { result ≡ varint_at s.now at }
 {
-    let mut k: u32 = 5;
-    let mut p = at;
     let mut w: u64 = 1;
     let mut v: u64 = 0;
-    while 0 < k {
+    for i in 0..5 {
+        let p = at + i;
         if s.len() <= p {
-            return Varint::CutShort;
+            return Err(ReadFault::CutShort);
         }
         let b = wide(s[p]);
         if b < 128 {
@@ -158,10 +152,8 @@ pub fn varint(s: &[u8], at: usize) -> Varint
         }
         v += (b - 128) * w;
         w *= 128;
-        p += 1;
-        k -= 1;
     }
-    Varint::IllFormed
+    Err(ReadFault::IllFormed)
 }
 
 // How far bit i is from the low end of its byte.
@@ -184,10 +176,7 @@ pub fn low_bit(s: &[u8], at: usize, i: usize) -> u8
 pub fn bit_at(s: &[u8], at: usize, i: usize) -> u8
     ensures { (result ≡ low_bit s.now at i) × (result < 2) }
 {
-    if s.len() <= at {
-        return 0;
-    }
-    if s.len() - at <= i / 8 {
+    if s.len() <= at || s.len() - at <= i / 8 {
         return 0;
     }
     low_bit(s, at, i)
@@ -199,9 +188,5 @@ pub fn spare_zero(s: &[u8], at: usize, n: usize) -> bool
     ensures { result ≡ low_spare_zero s.now at n }
 {
     let r = n % 8;
-    if r == 0 {
-        return true;
-    }
-    let b = s[at + n / 8];
-    b >> (r as u8) == 0
+    r == 0 || s[at + n / 8] >> (r as u8) == 0
 }

@@ -13,7 +13,7 @@ use Rattle.common.specs.Lists.{from, sum}
 use Rattle.bitmap_spec.specs.Judge.{size_of}
 use Rattle.bitmap_spec.specs.Form.{form, cut, write_chunks, write_containers}
 use Rattle.bitmap_spec.specs.Output.{written, placed, Gives}
-use Rattle.bitmap_spec.specs.declared.Written.TheVariants.{Length}
+use Rattle.std.specs.Prelude.{Ok}
 use Rattle.bitmap_laws.proofs.Length.{chunks_size}
 use Rattle.bitmap_laws.proofs.Output.{written-cat, written_none, taken, give}
 use Rattle.bitmap_laws.proofs.Values.{AllLe}
@@ -23,7 +23,7 @@ use Rattle.form_write.specs.Described.{descs_to, Describes}
 use Rattle.form_write.proofs.Whole.{size, all-parts}
 use Rattle.pair_write.specs.Sides.{Reaches}
 use Rattle.pair_write.specs.declared.Reached.{Reached}
-use Rattle.pair_write.specs.declared.Side.{Side}
+use Rattle.judge.specs.declared.set.Set.{Set}
 use Rattle.pair_write.proofs.Passing.{cells-sum}
 use Rattle.form_write.proofs.Trimming.{no_cells}
 use Rattle.pair_place.specs.Forms.{FormOf, Passed}
@@ -49,11 +49,11 @@ pub no_chunk : (l before : List ℕ) (to : ℕ) → before ≡ written before to
 no_chunk l before to = rw (← no_cells l) (written_none before to)
 
 -- the last chunk ends at n
-pub all-passed : (l da : List ℕ) (x : Side) (db : List ℕ) (y : Side) (n k : ℕ) (ds₀ ds before out : List ℕ) (at : ℕ)
+pub all-passed : (l : List ℕ) (x y : Set) (n k : ℕ) (ds₀ ds before out : List ℕ) (at : ℕ)
     (r : Reached)
-    → k ≡ n → Reaches l da x db y k r → ds ≡ written ds₀ 0 (descs_to l k)
-    → out ≡ written before at (write_containers (map (cut l) (from 0 k))) → Passed l da x db y n ds₀ ds before out at r
-all-passed l da x db y n k ds₀ ds before out at r e p q w =
+    → k ≡ n → Reaches l x y k r → ds ≡ written ds₀ 0 (descs_to l k)
+    → out ≡ written before at (write_containers (map (cut l) (from 0 k))) → Passed l x y n ds₀ ds before out at r
+all-passed l x y n k ds₀ ds before out at r e p q w =
     record { reached = rw e at p; descs = rw e at q; bytes = rw e at w }
 
 -- header and chunks before the containers that were moved up
@@ -83,7 +83,7 @@ module _ (l : List ℕ) (n card : ℕ) (ds : List ℕ) (d : Describes l n card d
       → o1 ≡ written before 6 (write_containers (map (cut l) (from 0 n)))
       → o2 ≡ written o1 0 ((header card (length ds) ++ write_chunks (length ds / 256) ds) ++ take k (drop 6 o1))
       → len ≡ 6 + length (write_chunks (length ds / 256) ds) + k
-      → Gives (placed (form l) (length before)) before o2 (Length len)
+      → Gives (placed (form l) (length before)) before o2 (Ok len)
   placed-form before o1 o2 k len ek room q1 q2 el =
       let w = write_containers (map (cut l) (from 0 n)) in
       let h = header card (length ds) ++ write_chunks (length ds / 256) ds in

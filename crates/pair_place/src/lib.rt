@@ -9,11 +9,13 @@ ghost use Rattle.bitmap_spec.specs.Form.{form, cut, write_chunks, write_containe
 ghost use Rattle.bitmap_spec.specs.Output.{written, placed, Gives};
 ghost use Rattle.bitmap_laws.proofs.Round.{header};
 ghost use Rattle.bitmap_laws.proofs.Values.{AllLe};
-ghost use Rattle.pair_write.specs.Sides.{Both, Roomy, result_of};
+ghost use Rattle.pair_write.specs.Sides.{Roomy, result_of};
 ghost use Rattle.pair_place.specs.Forms.{Described, GivesForm, Passed};
 
-use bitmap_spec::{Operation, Written};
-use pair_write::{Reached, Side};
+use bitmap_spec::Operation;
+use common::Refusal;
+use judge::Set;
+use pair_write::Reached;
 
 // Whether a form with these descriptors, whose containers take `size` bytes, has at most `room`. The chunks are measured
 // only where their bound does not tell: they are then gone through once, when they are written.
@@ -28,36 +30,32 @@ fn fits(ds: &[u8], size: usize, room: usize) -> bool
 }
 
 // Writes the form of the set that has these descriptors, this cardinality and these containers, or refuses for room.
-fn put_form(card: u32, ds: &[u8], body: &[u8], out: &mut [u8]) -> Written
+fn put_form(card: u32, ds: &[u8], body: &[u8], out: &mut [u8]) -> Result<usize, Refusal>
     requires { Described card ds.now body.now }
     ensures { GivesForm card ds.now body.now out.old out.new result }
 {
     if !fits(ds, body.len(), out.len()) {
-        return Written::Refused(13);
+        return Err(Refusal::Room);
     }
     let to = form_write::put_head(ds, card, out);
     let len = to + body.len();
     byte_move::copy_part(body, 0, body.len(), out, to);
-    Written::Length(len)
+    Ok(len)
 }
 
 // Writes the form of the result by way of ds and body, which have room for n containers: nothing goes out before its
 // length is known.
 fn put_through(
     o: Operation,
-    a: &[u8],
-    da: &[u8],
-    x: Side,
-    b: &[u8],
-    db: &[u8],
-    y: Side,
+    x: Set<'_>,
+    y: Set<'_>,
     n: usize,
     ds: &mut [u8],
     body: &mut [u8],
     out: &mut [u8],
-) -> Written
-    requires { Both a.now da.now x b.now db.now y × (n ≡ max x.count y.count) × (n ≤ length ds.old) × Roomy (result_of o a.now da.now x b.now db.now y) 0 n 0 (length body.old) }
-    ensures { Gives (placed (form (result_of o a.now da.now x b.now db.now y)) (length out.old)) out.old out.new result }
+) -> Result<usize, Refusal>
+    requires { (n ≡ max (length x.descriptors.now) (length y.descriptors.now)) × (n ≤ length ds.old) × Roomy (result_of o x y) 0 n 0 (length body.old) }
+    ensures { Gives (placed (form (result_of o x.entry y.entry)) (length out.old)) out.old out.new result }
 {
     let p = Reached {
         card: 0,
@@ -65,69 +63,41 @@ fn put_through(
         at: x.start,
         bt: y.start,
     };
-    let g = pair_write::gather(o, a, da, x, b, db, y, p, 0, n, ds, body);
+    let g = pair_write::gather(o, x, y, p, 0, n, ds, body);
     let m = form_write::trim(ds, n);
     put_form(g.card, &ds[..m], &body[..g.size], out)
 }
 
-// The same for at most 32 containers: small arrays are cleared faster.
-fn put_small(
+// The same for at most N containers, by way of arrays for them: small arrays are cleared faster.
+fn put_by_arrays<const N: usize, const B: usize>(
     o: Operation,
-    a: &[u8],
-    da: &[u8],
-    x: Side,
-    b: &[u8],
-    db: &[u8],
-    y: Side,
+    x: Set<'_>,
+    y: Set<'_>,
     n: usize,
     out: &mut [u8],
-) -> Written
-    requires { Both a.now da.now x b.now db.now y × (n ≡ max x.count y.count) × (n ≤ 32) }
-    ensures { Gives (placed (form (result_of o a.now da.now x b.now db.now y)) (length out.old)) out.old out.new result }
+) -> Result<usize, Refusal>
+    requires { (n ≡ max (length x.descriptors.now) (length y.descriptors.now)) × (n ≤ N) × (N ≤ 256) × (B ≡ N * 32) }
+    ensures { Gives (placed (form (result_of o x.entry y.entry)) (length out.old)) out.old out.new result }
 {
-    let mut ds = [0u8; 32];
-    let mut body = [0u8; 1024];
-    put_through(o, a, da, x, b, db, y, n, &mut ds, &mut body, out)
-}
-
-// The same for at most 256 containers.
-fn put_middle(
-    o: Operation,
-    a: &[u8],
-    da: &[u8],
-    x: Side,
-    b: &[u8],
-    db: &[u8],
-    y: Side,
-    n: usize,
-    out: &mut [u8],
-) -> Written
-    requires { Both a.now da.now x b.now db.now y × (n ≡ max x.count y.count) × (n ≤ 256) }
-    ensures { Gives (placed (form (result_of o a.now da.now x b.now db.now y)) (length out.old)) out.old out.new result }
-{
-    let mut ds = [0u8; 256];
-    let mut body = [0u8; 8192];
-    put_through(o, a, da, x, b, db, y, n, &mut ds, &mut body, out)
+    let mut ds = [0u8; N];
+    let mut body = [0u8; B];
+    put_through(o, x, y, n, &mut ds, &mut body, out)
 }
 
 // Makes all n containers, 256 at a time in body, and puts their bytes to out[to] and on, one after the other.
 fn put_chunkwise(
     o: Operation,
-    a: &[u8],
-    da: &[u8],
-    x: Side,
-    b: &[u8],
-    db: &[u8],
-    y: Side,
+    x: Set<'_>,
+    y: Set<'_>,
     n: usize,
     ds: &mut [u8],
     body: &mut [u8],
     out: &mut [u8],
     to: usize,
 ) -> Reached
-    requires { Both a.now da.now x b.now db.now y × (n ≤ 8192) × (n ≤ length ds.old) × (8192 ≤ length body.old)
-        × (to + length (write_containers (map (cut (result_of o a.now da.now x b.now db.now y)) (from 0 n))) ≤ length out.old) }
-    ensures { Passed (result_of o a.now da.now x b.now db.now y) da.now x db.now y n ds.old ds.new out.old out.new to result }
+    requires { (n ≤ 8192) × (n ≤ length ds.old) × (8192 ≤ length body.old)
+        × (to + length (write_containers (map (cut (result_of o x y)) (from 0 n))) ≤ length out.old) }
+    ensures { Passed (result_of o x.entry y.entry) x.entry y.entry n ds.old ds.new out.old out.new to result }
 {
     let mut p = Reached {
         card: 0,
@@ -136,9 +106,10 @@ fn put_chunkwise(
         bt: y.start,
     };
     let mut k: usize = 0;
+    // a step of up to 256
     while k < n {
         let e = chunks_write::chunk_end(k, n);
-        let q = pair_write::gather(o, a, da, x, b, db, y, p, k, e, ds, body);
+        let q = pair_write::gather(o, x, y, p, k, e, ds, body);
         byte_move::copy_part(body, 0, q.size - p.size, out, to + p.size);
         p = q;
         k = e;
@@ -164,41 +135,27 @@ fn put_before(card: u32, ds: &[u8], size: usize, out: &mut [u8]) -> usize
 // Called from two places, so that it stays out of put_large.
 fn put_known(
     o: Operation,
-    a: &[u8],
-    da: &[u8],
-    x: Side,
-    b: &[u8],
-    db: &[u8],
-    y: Side,
+    x: Set<'_>,
+    y: Set<'_>,
     n: usize,
     ds: &mut [u8],
     body: &mut [u8],
     out: &mut [u8],
-) -> Written
-    requires { Both a.now da.now x b.now db.now y × (n ≡ max x.count y.count) × (n ≤ length ds.old) × (8192 ≤ length body.old) × (length (form (result_of o a.now da.now x b.now db.now y)) ≤ length out.old) }
-    ensures { Gives (placed (form (result_of o a.now da.now x b.now db.now y)) (length out.old)) out.old out.new result }
+) -> Result<usize, Refusal>
+    requires { (n ≡ max (length x.descriptors.now) (length y.descriptors.now)) × (n ≤ length ds.old) × (8192 ≤ length body.old) × (length (form (result_of o x y)) ≤ length out.old) }
+    ensures { Gives (placed (form (result_of o x.entry y.entry)) (length out.old)) out.old out.new result }
 {
-    let p = put_chunkwise(o, a, da, x, b, db, y, n, ds, body, out, 6);
+    let p = put_chunkwise(o, x, y, n, ds, body, out, 6);
     let m = form_write::trim(ds, n);
-    Written::Length(put_before(p.card, &ds[..m], p.size, out))
+    Ok(put_before(p.card, &ds[..m], p.size, out))
 }
 
 // How long the form of the result is; ds is written over.
-fn form_length(
-    o: Operation,
-    a: &[u8],
-    da: &[u8],
-    x: Side,
-    b: &[u8],
-    db: &[u8],
-    y: Side,
-    n: usize,
-    ds: &mut [u8],
-) -> usize
-    requires { Both a.now da.now x b.now db.now y × (n ≡ max x.count y.count) × (n ≤ length ds.old) }
-    ensures { result ≡ length (form (result_of o a.now da.now x b.now db.now y)) }
+fn form_length(o: Operation, x: Set<'_>, y: Set<'_>, n: usize, ds: &mut [u8]) -> usize
+    requires { (n ≡ max (length x.descriptors.now) (length y.descriptors.now)) × (n ≤ length ds.old) }
+    ensures { result ≡ length (form (result_of o x.entry y.entry)) }
 {
-    pair_write::describe(o, a, da, x, b, db, y, n, ds);
+    pair_write::describe(o, x, y, n, ds);
     let m = form_write::trim(ds, n);
     form_write::form_size(&ds[..m])
 }
@@ -210,12 +167,7 @@ fn bound(n: usize, most: usize) -> usize
     ensures { result ≡ 6 + min (195 * ((n + 255) / 256) + most) (163 * ((n + 255) / 256) + 32 * n) }
 {
     let c = (n + 255) / 256;
-    let p = 195 * c + most;
-    let q = 163 * c + 32 * n;
-    if p < q {
-        return 6 + p;
-    }
-    6 + q
+    6 + usize::min(195 * c + most, 163 * c + 32 * n)
 }
 
 // Writes the form of the result, or refuses for room; both bitmaps' containers take `most` bytes. Few bytes go by way
@@ -223,54 +175,40 @@ fn bound(n: usize, most: usize) -> usize
 // The arrays stand here alone and are lent, so that the stack has them once.
 fn put_large(
     o: Operation,
-    a: &[u8],
-    da: &[u8],
-    x: Side,
-    b: &[u8],
-    db: &[u8],
-    y: Side,
+    x: Set<'_>,
+    y: Set<'_>,
     n: usize,
     most: usize,
     out: &mut [u8],
-) -> Written
-    requires { Both a.now da.now x b.now db.now y × (n ≡ max x.count y.count) × (most ≡ (length a.now - x.start) + (length b.now - y.start)) }
-    ensures { Gives (placed (form (result_of o a.now da.now x b.now db.now y)) (length out.old)) out.old out.new result }
+) -> Result<usize, Refusal>
+    requires { (n ≡ max (length x.descriptors.now) (length y.descriptors.now)) × (most ≡ (length x.bytes.now - x.start) + (length y.bytes.now - y.start)) }
+    ensures { Gives (placed (form (result_of o x.entry y.entry)) (length out.old)) out.old out.new result }
 {
     let mut ds = [0u8; 8192];
     let mut body = [0u8; 8192];
     if most <= 8160 {
-        return put_through(o, a, da, x, b, db, y, n, &mut ds, &mut body, out);
+        return put_through(o, x, y, n, &mut ds, &mut body, out);
     }
     if bound(n, most) <= out.len() {
-        return put_known(o, a, da, x, b, db, y, n, &mut ds, &mut body, out);
+        return put_known(o, x, y, n, &mut ds, &mut body, out);
     }
-    if form_length(o, a, da, x, b, db, y, n, &mut ds) <= out.len() {
-        return put_known(o, a, da, x, b, db, y, n, &mut ds, &mut body, out);
+    if form_length(o, x, y, n, &mut ds) <= out.len() {
+        return put_known(o, x, y, n, &mut ds, &mut body, out);
     }
-    Written::Refused(13)
+    Err(Refusal::Room)
 }
 
 // Writes the form of two judged bitmaps combined, or refuses for room.
-pub fn put_combined(
-    o: Operation,
-    a: &[u8],
-    da: &[u8],
-    x: Side,
-    b: &[u8],
-    db: &[u8],
-    y: Side,
-    out: &mut [u8],
-) -> Written
-    requires { Both a.now da.now x b.now db.now y }
-    ensures { Gives (placed (form (result_of o a.now da.now x b.now db.now y)) (length out.old)) out.old out.new result }
+pub fn put_combined(o: Operation, x: Set<'_>, y: Set<'_>, out: &mut [u8]) -> Result<usize, Refusal>
+    ensures { Gives (placed (form (result_of o x.entry y.entry)) (length out.old)) out.old out.new result }
 {
-    let n = pair_write::larger(x.count, y.count);
+    let n = usize::max(x.descriptors.len(), y.descriptors.len());
     if n <= 32 {
-        return put_small(o, a, da, x, b, db, y, n, out);
+        return put_by_arrays::<32, 1024>(o, x, y, n, out);
     }
     if n <= 256 {
-        return put_middle(o, a, da, x, b, db, y, n, out);
+        return put_by_arrays::<256, 8192>(o, x, y, n, out);
     }
-    let most = (a.len() - x.start) + (b.len() - y.start);
-    put_large(o, a, da, x, b, db, y, n, most, out)
+    let most = (x.bytes.len() - x.start) + (y.bytes.len() - y.start);
+    put_large(o, x, y, n, most, out)
 }

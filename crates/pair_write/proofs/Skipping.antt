@@ -7,8 +7,8 @@ use Prim.Native.Nat.{ℕ, zero, suc, ◌+◌, ◌-◌, ◌*◌, ◌≤◌, ◌<�
 use native.Mathlib.Nat.{add-zero}
 use native.Mathlib.Numerals.{add-one}
 use native.Mathlib.Omega.{arith}
-use borrow.Author.Tests.{lt-ltb, le-ltb}
-use lib.ListN.{length, get_or, set, drop, length-append, replicate, length-replicate, replicate-append-replicate}
+use lib.ListN.{length, get_or, get_or-eq_default, set, drop, length-append, replicate, length-replicate}
+use lib.ListN.{replicate-append-replicate}
 use lib.Seq.{set_at}
 use Rattle.common.specs.Lists.{keep, from, mem}
 use Rattle.bitmap_spec.specs.Form.{cut, descriptor_of, write_containers}
@@ -20,38 +20,36 @@ use Rattle.bitmap_spec.specs.declared.Operation.{Operation}
 use Rattle.form_write.specs.Described.{descs_to}
 use Rattle.form_write.proofs.Cells.{desc-more, desc-length, card-more}
 use Rattle.form_write.proofs.Trimming.{cells-trim}
-use Rattle.judge.specs.Post.{SliceView, viewed}
-use Rattle.pair_write.specs.Sides.{desc_at, place_at, Both, result_of}
-use Rattle.pair_write.specs.declared.Side.{Side}
+use Rattle.pair_write.specs.Sides.{desc_at, place_at, result_of}
+use Rattle.judge.specs.declared.set.Set.{Set}
 use Rattle.pair_write.proofs.Pairs.{place-next, size-zero}
 use Rattle.pair_write.proofs.Result.{cut-pair, pair-none}
 
 -- from k on, up to r, both bitmaps' containers are empty
-abbrev pub Empty : List ℕ → ℕ → List ℕ → ℕ → ℕ → ℕ → Type 0
-Empty da m db n k r = (j : ℕ) → k ≤ j → j < r → (desc_at da m j ≡ 0) × (desc_at db n j ≡ 0)
+abbrev pub Empty : List ℕ → List ℕ → ℕ → ℕ → Type 0
+Empty d e k r = (j : ℕ) → k ≤ j → j < r → (desc_at d j ≡ 0) × (desc_at e j ≡ 0)
 
-pub desc-word : (d : List ℕ) (m i r : ℕ) → i + 8 ≤ m → r ≤ 8 → ((j : ℕ) → j < r → get_or d (i + j) 0 ≡ 0) → (j : ℕ) → j < r
-    → desc_at d m (i + j) ≡ 0
+pub desc-word : (d : List ℕ) (i r : ℕ) → ((j : ℕ) → j < r → get_or d (i + j) 0 ≡ 0) → (j : ℕ) → j < r
+    → desc_at d (i + j) ≡ 0
 unfolding desc_at
-desc-word d m i r h g z j l = rw (lt-ltb (i + j) m (omega arith)) (z j l)
+desc-word d i r z j l = z j l
 
-pub desc-beyond : (d : List ℕ) (m i j : ℕ) → m ≤ i → desc_at d m (i + j) ≡ 0
+pub desc-beyond : (d : List ℕ) (i j : ℕ) → length d ≤ i → desc_at d (i + j) ≡ 0
 unfolding desc_at
-desc-beyond d m i j h = rw (le-ltb (i + j) m (omega arith))
+desc-beyond d i j h = get_or-eq_default d 0 {n = i + j} (omega arith)
 
 -- r containers more, of which each bitmap is known to have as many or more empty ones
-pub empty-more : (da : List ℕ) (m : ℕ) (db : List ℕ) (n k i r s t : ℕ) → Empty da m db n k i
-    → ((j : ℕ) → j < s → desc_at da m (i + j) ≡ 0) → ((j : ℕ) → j < t → desc_at db n (i + j) ≡ 0) → r ≤ s → r ≤ t
-    → Empty da m db n k (i + r)
-empty-more da m db n k i r s t e f g p q j a b = ⊎_elim (λ l. e j a l)
+pub empty-more : (d e : List ℕ) (k i r s t : ℕ) → Empty d e k i
+    → ((j : ℕ) → j < s → desc_at d (i + j) ≡ 0) → ((j : ℕ) → j < t → desc_at e (i + j) ≡ 0) → r ≤ s → r ≤ t
+    → Empty d e k (i + r)
+empty-more d e k i r s t m f g p q j a b = ⊎_elim (λ l. m j a l)
     (λ l. let z : i + (j - i) ≡ j = omega arith in
     (rw z at (f (j - i) (omega arith)), rw z at (g (j - i) (omega arith)))) (below_or j i)
 
 -- a container that is empty before others that are
-pub empty-first : (da : List ℕ) (m : ℕ) (db : List ℕ) (n k r : ℕ) → desc_at da m k ≡ 0 → desc_at db n k ≡ 0
-    → Empty da m db n (k + 1) r → Empty da m db n k r
-empty-first da m db n k r p q e j a b = ⊎_elim (λ l. let z : k ≡ j = omega arith in (rw z at p, rw z at q))
-    (λ l. e j l b) (below_or j (k + 1))
+pub empty-first : (d e : List ℕ) (k r : ℕ) → desc_at d k ≡ 0 → desc_at e k ≡ 0 → Empty d e (k + 1) r → Empty d e k r
+empty-first d e k r p q m j a b = ⊎_elim (λ l. let z : k ≡ j = omega arith in (rw z at p, rw z at q))
+    (λ l. m j l b) (below_or j (k + 1))
 
 -- ---- zeros in the place of descriptors
 pub zeros-more : (before : List ℕ) (at m : ℕ) → at + m < length before
@@ -68,7 +66,8 @@ cleared-length before out k n h g e =
     ap length e ∙ length-written before (replicate (n - k) 0) k (omega (arith, z))
 
 -- behind the descriptors that are known
-pub cleared : (l first before out : List ℕ) (k n : ℕ) → k ≤ n → n ≤ length first → before ≡ written first 0 (descs_to l k)
+pub cleared : (l first before out : List ℕ) (k n : ℕ) → k ≤ n → n ≤ length first
+    → before ≡ written first 0 (descs_to l k)
     → out ≡ written before k (replicate (n - k) 0) → out ≡ written first 0 (descs_to l k ++ replicate (n - k) 0)
 cleared l first before out k n h g q e =
     let z : length (replicate {A = ℕ} (n - k) 0) ≡ n - k = length-replicate (n - k) 0 in
@@ -106,14 +105,15 @@ desc-over l first out n k t c h e q w =
     ∙ ap (λ (z : List ℕ). written first 0 (z ++ zs)) (ap (λ (z : ℕ). ds ++ (z ∷ [])) v ∙ sym (desc-more l k))
 
 -- ---- one bitmap
-place-past : (s d : List ℕ) (x : Side) → SliceView s d x.count x.start (viewed s d x.count x.start) → (k m : ℕ)
-    → ((j : ℕ) → k ≤ j → j < k + m → desc_at d x.count j ≡ 0) → place_at d x (k + m) ≡ place_at d x k
-place-past s d x v k zero h = ap (place_at d x) (add-zero k)
-place-past s d x v k (suc m) h =
+place-past : (x : Set) → (k m : ℕ)
+    → ((j : ℕ) → k ≤ j → j < k + m → desc_at x.descriptors.now j ≡ 0) → place_at x (k + m) ≡ place_at x k
+place-past x k zero h = ap (place_at x) (add-zero k)
+place-past x k (suc m) h =
     let n : k + suc m ≡ (k + m) + 1 = omega arith in
-    let none : 0 ≡ size_of (desc_at d x.count (k + m)) = sym (ap size_of (h (k + m) (omega arith) (omega arith)) ∙ size-zero) in
-    let more = place-next s d x v (k + m) (place_at d x (k + m)) 0 refl none in
-    rw n (sym more ∙ add-zero (place_at d x (k + m)) ∙ place-past s d x v k m (λ j p q. h j p (omega arith)))
+    let none : 0 ≡ size_of (desc_at x.descriptors.now (k + m)) =
+    sym (ap size_of (h (k + m) (omega arith) (omega arith)) ∙ size-zero) in
+    let more = place-next x (k + m) (place_at x (k + m)) 0 refl none in
+    rw n (sym more ∙ add-zero (place_at x (k + m)) ∙ place-past x k m (λ j p q. h j p (omega arith)))
 
 -- ---- containers of a set that are empty
 card-past : (l : List ℕ) (k m : ℕ) → ((j : ℕ) → k ≤ j → j < k + m → cut l j ≡ [])
@@ -121,7 +121,12 @@ card-past : (l : List ℕ) (k m : ℕ) → ((j : ℕ) → k ≤ j → j < k + m 
 card-past l k zero h = rw (add-zero k)
 card-past l k (suc m) h =
     let n : k + suc m ≡ (k + m) + 1 = omega arith in
-    rw n (omega (arith, card-more l (k + m), ap length (h (k + m) (omega arith) (omega arith)), card-past l k m (λ j p q. h j p (omega arith))))
+    rw n (omega (
+      arith,
+      card-more l (k + m),
+      ap length (h (k + m) (omega arith) (omega arith)),
+      card-past l k m (λ j p q. h j p (omega arith)),
+    ))
 
 descs-past : (l : List ℕ) (k m : ℕ) → ((j : ℕ) → k ≤ j → j < k + m → cut l j ≡ [])
     → descs_to l (k + m) ≡ descs_to l k ++ replicate m 0
@@ -133,42 +138,44 @@ descs-past l k (suc m) h =
     rw n (desc-more l (k + m)
     ∙ rw (descs-past l k m (λ j p q. h j p (omega arith)), last)
     (append_assoc (descs_to l k) (replicate m 0) (0 ∷ [])
-    ∙ ap (λ (z : List ℕ). descs_to l k ++ z) (replicate-append-replicate m 1 0 ∙ ap (λ (z : ℕ). replicate z 0) (add-one m))))
+    ∙ ap (λ (z : List ℕ). descs_to l k ++ z) (replicate-append-replicate m 1 0
+    ∙ ap (λ (z : ℕ). replicate z 0) (add-one m))))
 
 -- ---- two bitmaps
-module _ (o : Operation) (a da : List ℕ) (x : Side) (b db : List ℕ) (y : Side) (v : Both a da x b db y) (k r : ℕ)
-    (h : k ≤ r) (empty : Empty da x.count db y.count k r) where
+module _ (o : Operation) (x y : Set) (k r : ℕ)
+    (h : k ≤ r) (empty : Empty x.descriptors.now y.descriptors.now k r) where
   all : k + (r - k) ≡ r
   all = omega arith
 
-  none : (j : ℕ) → k ≤ j → j < k + (r - k) → cut (result_of o a da x b db y) j ≡ []
+  none : (j : ℕ) → k ≤ j → j < k + (r - k) → cut (result_of o x y) j ≡ []
   none j p q =
       let e = empty j p (omega arith) in
-      rw (e.0, e.1) at (cut-pair o a da x b db y v j (place_at da x j) (place_at db y j) refl refl)
-      ∙ pair-none o a (place_at da x j) b (place_at db y j)
+      rw (e.0, e.1) at (cut-pair o x y j (place_at x j) (place_at y j) refl refl)
+      ∙ pair-none o x.bytes.now (place_at x j) y.bytes.now (place_at y j)
 
-  pub first_past : place_at da x r ≡ place_at da x k
-  first_past = rw all at (place-past a da x v.first k (r - k) (λ j p q. (empty j p (omega arith)).0))
+  pub first_past : place_at x r ≡ place_at x k
+  first_past = rw all at (place-past x k (r - k) (λ j p q. (empty j p (omega arith)).0))
 
-  pub second_past : place_at db y r ≡ place_at db y k
-  second_past = rw all at (place-past b db y v.second k (r - k) (λ j p q. (empty j p (omega arith)).1))
+  pub second_past : place_at y r ≡ place_at y k
+  second_past = rw all at (place-past y k (r - k) (λ j p q. (empty j p (omega arith)).1))
 
-  pub members-past : length (keep (λ z. mem z (result_of o a da x b db y)) (from 0 (r * 256)))
-      ≡ length (keep (λ z. mem z (result_of o a da x b db y)) (from 0 (k * 256)))
-  members-past = rw all at (card-past (result_of o a da x b db y) k (r - k) none)
+  pub members-past : length (keep (λ z. mem z (result_of o x y)) (from 0 (r * 256)))
+      ≡ length (keep (λ z. mem z (result_of o x y)) (from 0 (k * 256)))
+  members-past = rw all at (card-past (result_of o x y) k (r - k) none)
 
-  pub cells-past : write_containers (map (cut (result_of o a da x b db y)) (from 0 r))
-      ≡ write_containers (map (cut (result_of o a da x b db y)) (from 0 k))
-  cells-past = rw all at (cells-trim (result_of o a da x b db y) k (r - k) (λ j p q. ap length (none j p q)))
+  pub cells-past : write_containers (map (cut (result_of o x y)) (from 0 r))
+      ≡ write_containers (map (cut (result_of o x y)) (from 0 k))
+  cells-past = rw all at (cells-trim (result_of o x y) k (r - k) (λ j p q. ap length (none j p q)))
 
   -- the descriptors of what was passed are 0
   pub zeros-past : (n : ℕ) → r ≤ n
-      → descs_to (result_of o a da x b db y) k ++ replicate (n - k) 0
-      ≡ descs_to (result_of o a da x b db y) r ++ replicate (n - r) 0
+      → descs_to (result_of o x y) k ++ replicate (n - k) 0
+      ≡ descs_to (result_of o x y) r ++ replicate (n - r) 0
   zeros-past n g =
       let e : (r - k) + (n - r) ≡ n - k = omega arith in
-      let d : descs_to (result_of o a da x b db y) r ≡ descs_to (result_of o a da x b db y) k ++ replicate (r - k) 0 =
-      rw all at (descs-past (result_of o a da x b db y) k (r - k) none) in
-      ap (λ (z : List ℕ). descs_to (result_of o a da x b db y) k ++ z) (ap (λ (z : ℕ). replicate z 0) (sym e) ∙ sym (replicate-append-replicate (r - k) (n - r) 0))
-      ∙ sym (append_assoc (descs_to (result_of o a da x b db y) k) (replicate (r - k) 0) (replicate (n - r) 0))
+      let d : descs_to (result_of o x y) r ≡ descs_to (result_of o x y) k ++ replicate (r - k) 0 =
+      rw all at (descs-past (result_of o x y) k (r - k) none) in
+      ap (λ (z : List ℕ). descs_to (result_of o x y) k ++ z)
+      (ap (λ (z : ℕ). replicate z 0) (sym e) ∙ sym (replicate-append-replicate (r - k) (n - r) 0))
+      ∙ sym (append_assoc (descs_to (result_of o x y) k) (replicate (r - k) 0) (replicate (n - r) 0))
       ∙ ap (λ (z : List ℕ). z ++ replicate (n - r) 0) (sym d)

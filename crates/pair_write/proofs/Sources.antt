@@ -23,9 +23,8 @@ use Rattle.bitmap_laws.proofs.Length.{sum-le}
 use Rattle.bitmap_laws.proofs.Sets.{neither}
 use Rattle.bitmap_laws.proofs.Stored.{size_low, size-high}
 use Rattle.form_write.proofs.Trimming.{cells-more, no_cells, write-size}
-use Rattle.judge.specs.Post.{SliceView, viewed}
-use Rattle.pair_write.specs.Sides.{desc_at, place_at, pair_holds, pair_members, Both, Roomy, result_of}
-use Rattle.pair_write.specs.declared.Side.{Side}
+use Rattle.pair_write.specs.Sides.{desc_at, place_at, pair_holds, pair_members, Roomy, result_of}
+use Rattle.judge.specs.declared.set.Set.{Set}
 use Rattle.pair_write.proofs.Pairs.{place-start, place-next, side-room}
 use Rattle.pair_write.proofs.Result.{cut-pair}
 
@@ -138,15 +137,18 @@ pair-bytes o a at d b bt e = ⊎_elim
 
 -- ---- all of them
 -- a judged bitmap's containers lie in it, and take at most 262,144 bytes
-pub side-start : (s d : List ℕ) (x : Side) → SliceView s d x.count x.start (viewed s d x.count x.start)
-    → x.start ≤ length s
-side-start s d x v = omega (arith, v.ends)
+pub side-start : (x : Set) → x.start ≤ length x.bytes.now
+side-start x = omega (arith, x.sound.ends)
 
-pub side-most : (s d : List ℕ) (x : Side) → SliceView s d x.count x.start (viewed s d x.count x.start)
-    → length s - x.start ≤ 262144
-side-most s d x v =
-    omega
-    (arith, v.ends, sum-le (take x.count d), length-take-le x.count d (omega (arith, v.few, v.long)), v.few)
+pub side-most : (x : Set) → length x.bytes.now - x.start ≤ 262144
+side-most x =
+    omega (
+      arith,
+      x.sound.ends,
+      sum-le (take (length x.descriptors.now) x.descriptors.now),
+      length-take-le (length x.descriptors.now) x.descriptors.now (omega arith),
+      x.sound.few,
+    )
 
 cells-suc : (l : List ℕ) (k : ℕ)
     → length (write_containers (map (cut l) (from 0 (suc k))))
@@ -185,48 +187,50 @@ roomy-count l k n done room e h =
       roomy = λ j p q. let i : k + (j - k) ≡ j = omega arith in omega (arith, rw i at (cells-grow l k (j - k)), e);
     }
 
-module _ (o : Operation) (a da : List ℕ) (x : Side) (b db : List ℕ) (y : Side) (v : Both a da x b db y) where
+module _ (o : Operation) (x y : Set) where
   cells-sources : (k : ℕ)
-      → length (write_containers (map (cut (result_of o a da x b db y)) (from 0 k))) + (x.start + y.start)
-      ≤ place_at da x k + place_at db y k
+      → length (write_containers (map (cut (result_of o x y)) (from 0 k))) + (x.start + y.start)
+      ≤ place_at x k + place_at y k
   cells-sources zero =
       omega (
         arith,
-        ap length (no_cells (result_of o a da x b db y)),
-        place-start a da x v.first,
-        place-start b db y v.second,
+        ap length (no_cells (result_of o x y)),
+        place-start x,
+        place-start y,
       )
   cells-sources (suc k) =
-      let c : cut (result_of o a da x b db y) k
-      ≡ pair_members o a (place_at da x k) (desc_at da x.count k) b (place_at db y k) (desc_at db y.count k) =
-      cut-pair o a da x b db y v k (place_at da x k) (place_at db y k) refl refl in
-      let p : place_at da x k + size_of (desc_at da x.count k) ≡ place_at da x (suc k) =
-      rw (← add-one k) (place-next a da x v.first k (place_at da x k) _ refl refl) in
-      let q : place_at db y k + size_of (desc_at db y.count k) ≡ place_at db y (suc k) =
-      rw (← add-one k) (place-next b db y v.second k (place_at db y k) _ refl refl) in
+      let c : cut (result_of o x y) k
+      ≡ pair_members o x.bytes.now (place_at x k) (desc_at x.descriptors.now k) y.bytes.now (place_at y k)
+      (desc_at y.descriptors.now k) =
+      cut-pair o x y k (place_at x k) (place_at y k) refl refl in
+      let p : place_at x k + size_of (desc_at x.descriptors.now k) ≡ place_at x (suc k) =
+      rw (← add-one k) (place-next x k (place_at x k) _ refl refl) in
+      let q : place_at y k + size_of (desc_at y.descriptors.now k) ≡ place_at y (suc k) =
+      rw (← add-one k) (place-next y k (place_at y k) _ refl refl) in
       omega (
         arith,
-        cells-suc (result_of o a da x b db y) k,
+        cells-suc (result_of o x y) k,
         ap length c,
-        pair-bytes o a (place_at da x k) (desc_at da x.count k) b (place_at db y k) (desc_at db y.count k),
+        pair-bytes o x.bytes.now (place_at x k) (desc_at x.descriptors.now k) y.bytes.now (place_at y k)
+            (desc_at y.descriptors.now k),
         p,
         q,
         cells-sources k,
       )
 
   pub cells-most : (k : ℕ)
-      → length (write_containers (map (cut (result_of o a da x b db y)) (from 0 k)))
-      ≤ (length a - x.start) + (length b - y.start)
+      → length (write_containers (map (cut (result_of o x y)) (from 0 k)))
+      ≤ (length x.bytes.now - x.start) + (length y.bytes.now - y.start)
   cells-most k =
       omega (
         arith,
         cells-sources k,
-        side-room a da x v.first k (place_at da x k) refl,
-        side-room b db y v.second k (place_at db y k) refl,
-        side-start a da x v.first,
-        side-start b db y v.second,
+        side-room x k (place_at x k) refl,
+        side-room y k (place_at y k) refl,
+        side-start x,
+        side-start y,
       )
 
-  pub roomy-bytes : (n room : ℕ) → (length a - x.start) + (length b - y.start) + 32 ≤ room
-      → Roomy (result_of o a da x b db y) 0 n 0 room
+  pub roomy-bytes : (n room : ℕ) → (length x.bytes.now - x.start) + (length y.bytes.now - y.start) + 32 ≤ room
+      → Roomy (result_of o x y) 0 n 0 room
   roomy-bytes n room h = record { roomy = λ j p q. omega (arith, cells-most j) }

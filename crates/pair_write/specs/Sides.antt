@@ -1,5 +1,6 @@
 -- Two judged bitmaps side by side, and their containers combined.
-use Rattle.std.specs.Prelude.{ℕ, ◌+◌, ◌-◌, ◌*◌, ◌≤◌, ◌<◌, ◌≡◌, Bool, true, false, List, ◌++◌, map, length, get_or, take, drop, ltb, eqb}
+use Rattle.std.specs.Prelude.{ℕ, ◌+◌, ◌-◌, ◌*◌, ◌≤◌, ◌<◌, ◌≡◌, Bool, true, false, List, ◌++◌, map, length, get_or, take}
+use Rattle.std.specs.Prelude.{drop, eqb}
 use Rattle.common.specs.Outcome.{pick, one}
 use Rattle.common.specs.Lists.{keep, from, mem, sum}
 use Rattle.bitmap_spec.specs.Bits.{bit}
@@ -10,17 +11,17 @@ use Rattle.bitmap_spec.specs.Sets.{holds, combine}
 use Rattle.bitmap_spec.specs.declared.Operation.{Operation}
 use Rattle.bitmap_spec.specs.declared.Operation.TheVariants.{Union, Intersection, Difference, SymmetricDifference}
 use Rattle.form_write.specs.Described.{descs_to}
-use Rattle.judge.specs.Post.{SliceView, viewed}
 use Rattle.pair_write.specs.declared.Reached.{Reached}
-use Rattle.pair_write.specs.declared.Side.{Side}
+use Rattle.judge.specs.Asking.{members}
+use Rattle.judge.specs.declared.set.Set.{Set}
 
--- descriptor k of the first n, 0 past them
-unfoldable pub desc_at : List ℕ → ℕ → ℕ → ℕ
-desc_at d n k = pick (ltb k n) (get_or d k 0) 0
+-- descriptor k, 0 past the last
+unfoldable pub desc_at : List ℕ → ℕ → ℕ
+desc_at d k = get_or d k 0
 
 -- where container k starts
-unfoldable pub place_at : List ℕ → Side → ℕ → ℕ
-place_at d x k = x.start + sum size_of (take k (take x.count d))
+unfoldable pub place_at : Set → ℕ → ℕ
+place_at x k = x.start + sum size_of (take k x.descriptors.now)
 
 -- whether j is a member of the block of a at at, combined with a container of b
 unfoldable pub half_holds : Operation → List ℕ → ℕ → List ℕ → ℕ → ℕ → ℕ → Bool
@@ -64,31 +65,26 @@ pub record Fresh (marks : List ℕ) (stamp : ℕ) : Type 0 where
   pub long : 256 ≤ length marks
   pub below : (x : ℕ) → x < 256 → get_or marks x 0 < stamp
 
--- both bitmaps were judged
-pub record Both (a da : List ℕ) (x : Side) (b db : List ℕ) (y : Side) : Type 0 where
-  pub first : SliceView a da x.count x.start (viewed a da x.count x.start)
-  pub second : SliceView b db y.count y.start (viewed b db y.count y.start)
-
 -- the set of the result
-unfoldable pub result_of : Operation → List ℕ → List ℕ → Side → List ℕ → List ℕ → Side → List ℕ
-result_of o a da x b db y = combine o (viewed a da x.count x.start) (viewed b db y.count y.start)
+unfoldable pub result_of : Operation → Set → Set → List ℕ
+result_of o x y = combine o (members x) (members y)
 
 -- the pass over the containers of the set l stands at container k
-pub record Reaches (l da : List ℕ) (x : Side) (db : List ℕ) (y : Side) (k : ℕ) (p : Reached) : Type 0 where
+pub record Reaches (l : List ℕ) (x y : Set) (k : ℕ) (p : Reached) : Type 0 where
   pub members : p.card ≡ length (keep (λ z. mem z l) (from 0 (k * 256)))
   pub few : p.card ≤ k * 256
   pub bytes : p.size ≡ length (write_containers (map (cut l) (from 0 k)))
-  pub first : p.at ≡ place_at da x k
-  pub second : p.bt ≡ place_at db y k
+  pub first : p.at ≡ place_at x k
+  pub second : p.bt ≡ place_at y k
 
 -- room and what is done have, before each of the containers from k to n, 32 bytes more than those before it take
 pub record Roomy (l : List ℕ) (k n done room : ℕ) : Type 0 where
   pub roomy : (j : ℕ) → k ≤ j → j < n → length (write_containers (map (cut l) (from 0 j))) + 32 ≤ done + room
 
 -- it went on from k to n: the descriptors, behind those before them, and the bytes in body
-pub record Gathers (l da : List ℕ) (x : Side) (db : List ℕ) (y : Side) (k n : ℕ) (p : Reached) (before ds body : List ℕ)
+pub record Gathers (l : List ℕ) (x y : Set) (k n : ℕ) (p : Reached) (before ds body : List ℕ)
     (r : Reached) : Type 0 where
-  pub reached : Reaches l da x db y n r
+  pub reached : Reaches l x y n r
   pub descs : (first : List ℕ) → n ≤ length first → before ≡ written first 0 (descs_to l k)
       → ds ≡ written first 0 (descs_to l n)
   pub grown : p.size ≤ r.size

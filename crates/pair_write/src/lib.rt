@@ -11,16 +11,10 @@ ghost use Rattle.bitmap_spec.specs.Output.{written};
 ghost use Rattle.bitmap_spec.specs.Sets.{holds};
 ghost use Rattle.blocks.specs.Block.{block};
 ghost use Rattle.form_write.specs.Described.{descs_to};
-ghost use Rattle.pair_write.specs.Sides.{desc_at, half_holds, pair_holds, pair_members, want_of, kept, joined_count, is_union, Marks, Fresh, Both, Reaches, Roomy, Gathers, result_of};
+ghost use Rattle.pair_write.specs.Sides.{desc_at, half_holds, pair_holds, pair_members, want_of, kept, joined_count, is_union, Marks, Fresh, Reaches, Roomy, Gathers, result_of};
 
 use bitmap_spec::Operation;
-
-// Where a judged bitmap's containers lie: how many descriptors it has, and where its containers start.
-#[derive(Clone, Copy)]
-pub struct Side {
-    pub count: usize,
-    pub start: usize,
-}
+use judge::Set;
 
 // Where the pass over the pairs stands: the members and bytes of the containers passed, and where the next two lie.
 #[derive(Clone, Copy)]
@@ -31,35 +25,11 @@ pub struct Reached {
     pub bt: usize,
 }
 
-// Descriptor k of the first n; past them a container is empty.
-fn descriptor_at(d: &[u8], n: usize, k: usize) -> u8
-    requires { n ≤ length d.now }
-    ensures { result ≡ desc_at d.now n k }
+// Descriptor k; past the last a container is empty.
+fn descriptor_at(d: &[u8], k: usize) -> u8
+    ensures { result ≡ desc_at d.now k }
 {
-    if k < n {
-        return d[k];
-    }
-    0
-}
-
-// The larger of two numbers.
-pub fn larger(m: usize, n: usize) -> usize
-    ensures { result ≡ max m n }
-{
-    if m < n {
-        return n;
-    }
-    m
-}
-
-// The smaller of two numbers.
-fn smaller(m: usize, n: usize) -> usize
-    ensures { result ≡ min m n }
-{
-    if m < n {
-        return m;
-    }
-    n
+    d.get(k).copied().unwrap_or(0)
 }
 
 // Joins the block of a at `at` with a container of b, as a block at out[to], and says how many members it has.
@@ -206,13 +176,11 @@ fn filter(
     ensures { (result ≡ length (kept s.now at n t.now start want)) × (result ≤ n) × (take (to + result) out.new ≡ take to out.old ++ kept s.now at n t.now start want) }
 {
     let mut m: usize = 0;
-    let mut i: usize = 0;
-    while i < n {
+    for i in 0..n {
         let x = s[at + i];
         out[to + m] = x;
         let z = bits::bit_of(t[start + (x / 8) as usize], (x % 8) as usize);
         m += (z == want) as usize;
-        i += 1;
     }
     m
 }
@@ -289,21 +257,18 @@ fn put_pair(
 fn descriptor(n: u32) -> u8
     ensures { result ≡ min n 32 }
 {
-    if n < 32 {
-        return n as u8;
-    }
-    32
+    u32::min(n, 32) as u8
 }
 
 // How many of the eight containers from i on are seen to be empty, in order: all where there are no more descriptors.
-fn empty_run(d: &[u8], m: usize, i: usize) -> usize
-    requires { (m ≤ length d.now) × (i ≤ 8192) }
-    ensures { (result ≤ 8) × ((j : ℕ) → j < result → desc_at d.now m (i + j) ≡ 0) }
+fn empty_run(d: &[u8], i: usize) -> usize
+    requires { i ≤ 8192 }
+    ensures { (result ≤ 8) × ((j : ℕ) → j < result → desc_at d.now (i + j) ≡ 0) }
 {
-    if i + 8 <= m {
+    if i + 8 <= d.len() {
         return words::empty_bytes(d, i);
     }
-    if m <= i {
+    if d.len() <= i {
         return 8;
     }
     0
@@ -311,13 +276,14 @@ fn empty_run(d: &[u8], m: usize, i: usize) -> usize
 
 // Goes on from container k, up to n, past containers that are empty in both bitmaps, eight at a time: most containers of
 // a thin bitmap are empty.
-fn pass_empty(da: &[u8], m: usize, db: &[u8], p: usize, k: usize, n: usize) -> usize
-    requires { (m ≤ length da.now) × (p ≤ length db.now) × (k ≤ n) × (n ≤ 8192) }
-    ensures { (k ≤ result) × (result ≤ n) × ((j : ℕ) → k ≤ j → j < result → (desc_at da.now m j ≡ 0) × (desc_at db.now p j ≡ 0)) }
+fn pass_empty(d: &[u8], e: &[u8], k: usize, n: usize) -> usize
+    requires { (k ≤ n) × (n ≤ 8192) }
+    ensures { (k ≤ result) × (result ≤ n) × ((j : ℕ) → k ≤ j → j < result → (desc_at d.now j ≡ 0) × (desc_at e.now j ≡ 0)) }
 {
     let mut i = k;
+    // a step of 8
     while 8 <= n - i {
-        let t = smaller(empty_run(da, m, i), empty_run(db, p, i));
+        let t = usize::min(empty_run(d, i), empty_run(e, i));
         if t < 8 {
             return i + t;
         }
@@ -330,42 +296,30 @@ fn pass_empty(da: &[u8], m: usize, db: &[u8], p: usize, k: usize, n: usize) -> u
 fn both_empty(d: u8, e: u8) -> bool
     ensures { (result ≡ true → (d ≡ 0) × (e ≡ 0)) }
 {
-    if d == 0 {
-        return e == 0;
-    }
-    false
+    d == 0 && e == 0
 }
 
 // Zeros from ds[k] up to ds[n].
-fn clear(ds: &mut [u8], k: usize, n: usize) -> usize
+fn clear(ds: &mut [u8], k: usize, n: usize)
     requires { (k ≤ n) × (n ≤ length ds.old) }
     ensures { ds.new ≡ written ds.old k (replicate (n - k) 0) }
 {
-    let mut i = k;
-    while i < n {
-        ds[i] = 0;
-        i += 1;
-    }
-    i
+    ds[k..n].fill(0);
 }
 
 // Goes on from container `start` to container n: fills in their descriptors, and puts their bytes from body[0] on.
 pub fn gather(
     o: Operation,
-    a: &[u8],
-    da: &[u8],
-    x: Side,
-    b: &[u8],
-    db: &[u8],
-    y: Side,
+    x: Set<'_>,
+    y: Set<'_>,
     p: Reached,
     start: usize,
     n: usize,
     ds: &mut [u8],
     body: &mut [u8],
 ) -> Reached
-    requires { Both a.now da.now x b.now db.now y × Reaches (result_of o a.now da.now x b.now db.now y) da.now x db.now y start p × (start ≤ n) × (n ≤ 8192) × (n ≤ length ds.old) × Roomy (result_of o a.now da.now x b.now db.now y) start n p.size (length body.old) }
-    ensures { Gathers (result_of o a.now da.now x b.now db.now y) da.now x db.now y start n p ds.old ds.new body.new result }
+    requires { Reaches (result_of o x y) x y start p × (start ≤ n) × (n ≤ 8192) × (n ≤ length ds.old) × Roomy (result_of o x y) start n p.size (length body.old) }
+    ensures { Gathers (result_of o x.entry y.entry) x.entry y.entry start n p ds.old ds.new body.new result }
 {
     let mut at = p.at;
     let mut bt = p.bt;
@@ -373,13 +327,14 @@ pub fn gather(
     let mut t: usize = 0;
     clear(ds, start, n);
     let mut k = start;
+    // a step of 1, or past empty containers
     while k < n {
-        let d = descriptor_at(da, x.count, k);
-        let e = descriptor_at(db, y.count, k);
+        let d = descriptor_at(x.descriptors, k);
+        let e = descriptor_at(y.descriptors, k);
         if both_empty(d, e) {
-            k = pass_empty(da, x.count, db, y.count, k + 1, n);
+            k = pass_empty(x.descriptors, y.descriptors, k + 1, n);
         } else {
-            let c = put_pair(o, a, at, d, b, bt, e, body, t);
+            let c = put_pair(o, x.bytes, at, d, y.bytes, bt, e, body, t);
             let m = descriptor(c);
             ds[k] = m;
             card += c;
@@ -417,16 +372,13 @@ fn is_union(o: Operation) -> bool
 }
 
 // Gives the n bytes of s at `at` the stamp as their mark.
-fn mark(s: &[u8], at: usize, n: usize, stamp: u16, marks: &mut [u16]) -> usize
+fn mark(s: &[u8], at: usize, n: usize, stamp: u16, marks: &mut [u16])
     requires { (at + n ≤ length s.now) × (256 ≤ length marks.old) }
     ensures { Marks (take n (drop at s.now)) stamp marks.old marks.new }
 {
-    let mut i: usize = 0;
-    while i < n {
+    for i in 0..n {
         marks[s[at + i] as usize] = stamp;
-        i += 1;
     }
-    i
 }
 
 // How many of the n bytes of s at `at` have the stamp as their mark.
@@ -435,10 +387,8 @@ fn marked(s: &[u8], at: usize, n: usize, stamp: u16, marks: &[u16]) -> u32
     ensures { result ≡ length (keep (λ x. eqb (get_or marks.now x 0) stamp) (take n (drop at s.now))) }
 {
     let mut m: u32 = 0;
-    let mut i: usize = 0;
-    while i < n {
+    for i in 0..n {
         m += (marks[s[at + i] as usize] == stamp) as u32;
-        i += 1;
     }
     m
 }
@@ -449,11 +399,9 @@ fn common(s: &[u8], at: usize, n: usize, t: &[u8], start: usize) -> u32
     ensures { result ≡ length (kept s.now at n t.now start 1) }
 {
     let mut m: u32 = 0;
-    let mut i: usize = 0;
-    while i < n {
+    for i in 0..n {
         let x = s[at + i];
         m += bits::bit_of(t[start + (x / 8) as usize], (x % 8) as usize) as u32;
-        i += 1;
     }
     m
 }
@@ -564,37 +512,37 @@ fn pair_count(
 }
 
 // Fills in the descriptors of the first n containers of the result, whose bytes nobody keeps.
-pub fn describe(
-    o: Operation,
-    a: &[u8],
-    da: &[u8],
-    x: Side,
-    b: &[u8],
-    db: &[u8],
-    y: Side,
-    n: usize,
-    ds: &mut [u8],
-) -> usize
-    requires { Both a.now da.now x b.now db.now y × (n ≤ 8192) × (n ≤ length ds.old) }
-    ensures { ds.new ≡ written ds.old 0 (descs_to (result_of o a.now da.now x b.now db.now y) n) }
+pub fn describe(o: Operation, x: Set<'_>, y: Set<'_>, n: usize, ds: &mut [u8])
+    requires { (n ≤ 8192) × (n ≤ length ds.old) }
+    ensures { ds.new ≡ written ds.old 0 (descs_to (result_of o x.entry y.entry) n) }
 {
     let mut marks = [0u16; 256];
     let mut at = x.start;
     let mut bt = y.start;
     clear(ds, 0, n);
     let mut k: usize = 0;
+    // a step of 1, or past empty containers
     while k < n {
-        let d = descriptor_at(da, x.count, k);
-        let e = descriptor_at(db, y.count, k);
+        let d = descriptor_at(x.descriptors, k);
+        let e = descriptor_at(y.descriptors, k);
         if both_empty(d, e) {
-            k = pass_empty(da, x.count, db, y.count, k + 1, n);
+            k = pass_empty(x.descriptors, y.descriptors, k + 1, n);
         } else {
-            let c = pair_count(o, a, at, d, b, bt, e, (k + 1) as u16, &mut marks);
+            let c = pair_count(
+                o,
+                x.bytes,
+                at,
+                d,
+                y.bytes,
+                bt,
+                e,
+                (k + 1) as u16,
+                &mut marks,
+            );
             ds[k] = descriptor(c);
             at += judge::size_of(d);
             bt += judge::size_of(e);
             k += 1;
         }
     }
-    k
 }

@@ -13,7 +13,8 @@ use borrow.Author.Tests.{leb-true, leb-false, le-leb, lt-leb}
 
 module _ (k j : ℕ) (some : 0 < j) (within : j ≤ k) where
   -- one byte more in front
-  pub turn : (s : List ℕ) (at v : ℕ) → v ≡ little_at s (at + j) (k - j) → v * 256 + get_or s (at + (j - 1)) 0 ≡ little_at s (at + (j - 1)) (k - (j - 1))
+  pub turn : (s : List ℕ) (at v : ℕ) → v ≡ little_at s (at + j) (k - j)
+      → v * 256 + get_or s (at + (j - 1)) 0 ≡ little_at s (at + (j - 1)) (k - (j - 1))
   unfolding little_at
   turn s at v e =
       let more : k - (j - 1) ≡ suc (k - j) = omega arith in

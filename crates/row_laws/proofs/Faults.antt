@@ -1,12 +1,13 @@
--- Which bytes are no number: cut short exactly if fewer than five are left, all with the high bit; ill-formed exactly if a fifth
--- byte, behind four with the high bit, is over 0F.
--- Why: group by group; the weight of the fifth group is 128 ^ 4, and the groups before it make less than one of it.
--- Assumes nothing.
+-- Which bytes are no number: cut short exactly if fewer than five are left, all with the high bit; ill-formed exactly
+-- if a fifth byte, behind four with the high bit, is over 0F. Why: group by group; the weight of the fifth group is 128
+-- ^ 4, and the groups before it make less than one of it. Assumes nothing.
+use Rattle.std.specs.Prelude.{Result, Err}
 use mathlib.Core.Path.{◌≡◌, refl, sym, ap, ◌∙◌}
 use mathlib.Core.Bool.{Bool, true, false}
 use mathlib.Core.List.{List}
 use Prim.Native.Nat.{ℕ, zero, suc, ◌+◌, ◌-◌, ◌*◌, ◌^◌, ◌≤◌, ◌<◌}
-use native.Mathlib.Nat.{mul_assoc, mul-le-mul_left, mul-le-mul_right, lt_of_not-le, pow-suc, pow-le-pow_right, zero-lt-suc}
+use native.Mathlib.Nat.{mul_assoc, mul-le-mul_left, mul-le-mul_right, lt_of_not-le, pow-suc, pow-le-pow_right}
+use native.Mathlib.Nat.{zero-lt-suc}
 use native.Mathlib.Omega.{arith}
 use borrow.Author.Tests.{leb-true, leb-false, ltb-true, ltb-false}
 use lib.ListN.{length, get_or}
@@ -14,17 +15,18 @@ use lib.Dec.{leb, ltb}
 use Rattle.common.proofs.Outcomes.{clash}
 use Rattle.row_spec.specs.Varint.{varint_at, groups, last_group}
 use Rattle.row_spec.specs.declared.Varint.{Varint}
-use Rattle.row_spec.specs.declared.Varint.TheVariants.{CutShort, IllFormed}
+use Rattle.row_spec.specs.declared.ReadFault.{ReadFault}
+use Rattle.row_spec.specs.declared.ReadFault.TheVariants.{CutShort, IllFormed}
 use Rattle.row_laws.specs.Forms.{Bytes, Cut, Over}
 use Rattle.row_laws.proofs.Varints.{last_fits, last-large, groups-cut, groups-last, groups-more}
 
 -- what the next byte says: there is none, it is the last, or more follow
-record Next (s : List ℕ) (k at w v : ℕ) (r : Varint) : Type 0 where
+record Next (s : List ℕ) (k at w v : ℕ) (r : Result Varint ReadFault) : Type 0 where
   last : at < length s → get_or s at 0 < 128 → last_group (get_or s at 0) w v (at + 1) ≡ r
   more : at < length s → 128 ≤ get_or s at 0 → groups s k (at + 1) (w * 128) (v + (get_or s at 0 - 128) * w) ≡ r
-  none : length s ≤ at → CutShort ≡ r
+  none : length s ≤ at → Err CutShort ≡ r
 
-next : (s : List ℕ) (k at w v : ℕ) (r : Varint) → groups s (suc k) at w v ≡ r → Next s k at w v r
+next : (s : List ℕ) (k at w v : ℕ) (r : Result Varint ReadFault) → groups s (suc k) at w v ≡ r → Next s k at w v r
 next s k at w v r e =
     let less : suc k - 1 ≡ k = omega arith in
     record {
@@ -33,14 +35,14 @@ next s k at w v r e =
       none = λ end. sym (groups-cut s (suc k) at w v (omega arith) end) ∙ e;
     }
 
-last-not-cut : (b w v p : ℕ) → last_group b w v p ≡ CutShort → ⊥
+last-not-cut : (b w v p : ℕ) → last_group b w v p ≡ Err CutShort → ⊥
 last-not-cut b w v p e = by-test (leb (v + b * w) 4294967295) refl
   where
     by-test : (t : Bool) → leb (v + b * w) 4294967295 ≡ t → ⊥
     by-test true q = let x = sym (last_fits b w v p (leb-true (v + b * w) 4294967295 q)) ∙ e in clash (cc)
     by-test false q = let x = sym (last-large b w v p (leb-false (v + b * w) 4294967295 q)) ∙ e in clash (cc)
 
-last-ill : (b w v p : ℕ) → last_group b w v p ≡ IllFormed → 4294967295 < v + b * w
+last-ill : (b w v p : ℕ) → last_group b w v p ≡ Err IllFormed → 4294967295 < v + b * w
 last-ill b w v p e = by-test (leb (v + b * w) 4294967295) refl
   where
     by-test : (t : Bool) → leb (v + b * w) 4294967295 ≡ t → 4294967295 < v + b * w
@@ -62,17 +64,17 @@ module _ (s : List ℕ) where
   high-off : (at : ℕ) → High at → High (at + 1)
   high-off at all i h = let e : at + suc i ≡ at + 1 + i = omega arith in rw (sym e) (all (suc i) (omega arith))
 
-  cut_of : (k at w v : ℕ) → groups s k at w v ≡ CutShort → (length s < at + k) × High at
+  cut_of : (k at w v : ℕ) → groups s k at w v ≡ Err CutShort → (length s < at + k) × High at
   unfolding groups
   cut_of zero at w v e = clash (cc)
   cut_of (suc k) at w v e =
       by-test (ltb at (length s)) (ltb (get_or s at 0) 128) refl refl (λ q. cut_of k (at + 1) (w * 128) _ q)
     where
-      step : Next s k at w v CutShort
-      step = next s k at w v CutShort e
+      step : Next s k at w v (Err CutShort)
+      step = next s k at w v (Err CutShort) e
 
       by-test : (t u : Bool) → ltb at (length s) ≡ t → ltb (get_or s at 0) 128 ≡ u
-          → (groups s k (at + 1) (w * 128) (v + (get_or s at 0 - 128) * w) ≡ CutShort
+          → (groups s k (at + 1) (w * 128) (v + (get_or s at 0 - 128) * w) ≡ Err CutShort
           → (length s < at + 1 + k) × High (at + 1))
           → (length s < at + suc k) × High at
       by-test true true p q more =
@@ -85,7 +87,7 @@ module _ (s : List ℕ) where
           let end = ltb-false at (length s) p in
           (omega arith, λ i h. absurd (omega arith))
 
-  of_cut : (k at w v : ℕ) → 0 < k → length s < at + k → High at → groups s k at w v ≡ CutShort
+  of_cut : (k at w v : ℕ) → 0 < k → length s < at + k → High at → groups s k at w v ≡ Err CutShort
   of_cut zero at w v some few high = absurd (omega arith)
   of_cut (suc k) at w v some few high =
       by-test (ltb at (length s)) refl (λ some less. of_cut k (at + 1) (w * 128) _ some less (high-off at high))
@@ -94,8 +96,9 @@ module _ (s : List ℕ) where
       less = omega arith
 
       by-test : (t : Bool) → ltb at (length s) ≡ t
-          → (0 < k → length s < at + 1 + k → groups s k (at + 1) (w * 128) (v + (get_or s at 0 - 128) * w) ≡ CutShort)
-          → groups s (suc k) at w v ≡ CutShort
+          → (0 < k → length s < at + 1 + k
+          → groups s k (at + 1) (w * 128) (v + (get_or s at 0 - 128) * w) ≡ Err CutShort)
+          → groups s (suc k) at w v ≡ Err CutShort
       by-test true p more =
           let there = ltb-true at (length s) p in
           let e : at + 0 ≡ at = omega arith in
@@ -104,7 +107,7 @@ module _ (s : List ℕ) where
       by-test false p more = groups-cut s (suc k) at w v (omega arith) (ltb-false at (length s) p)
 
   -- a number is cut short exactly if fewer than five bytes are left, all with the high bit
-  pub cut_short : (at : ℕ) → (varint_at s at ≡ CutShort → Cut s at) × (Cut s at → varint_at s at ≡ CutShort)
+  pub cut_short : (at : ℕ) → (varint_at s at ≡ Err CutShort → Cut s at) × (Cut s at → varint_at s at ≡ Err CutShort)
   unfolding varint_at
   cut_short at = (
     (λ e. let r = cut_of 5 at 1 0 e in record { few = r.0; high = r.1 }),
@@ -127,7 +130,7 @@ weight-low k w e =
     omega arith
 
 module _ (s : List ℕ) where
-  of-ill : (k at w v : ℕ) → w * 128 ^ k ≡ 268435456 → Over s k at → groups s (suc k) at w v ≡ IllFormed
+  of-ill : (k at w v : ℕ) → w * 128 ^ k ≡ 268435456 → Over s k at → groups s (suc k) at w v ≡ Err IllFormed
   unfolding groups
   of-ill zero at w v e f = by-test (ltb (get_or s at 0) 128) refl
     where
@@ -140,7 +143,7 @@ module _ (s : List ℕ) where
       over : 15 < get_or s at 0
       over = rw place at f.over
 
-      by-test : (t : Bool) → ltb (get_or s at 0) 128 ≡ t → groups s 1 at w v ≡ IllFormed
+      by-test : (t : Bool) → ltb (get_or s at 0) 128 ≡ t → groups s 1 at w v ≡ Err IllFormed
       by-test true q =
           let l : 16 * w ≤ get_or s at 0 * w = mul-le-mul_right w over in
           groups-last s 1 at w v (omega arith) there (ltb-true (get_or s at 0) 128 q)
@@ -160,11 +163,11 @@ module _ (s : List ℕ) where
       ∙ rw less (of-ill k (at + 1) (w * 128) _ (weight-on k w e) rest)
 
   module _ (small : Bytes s) where
-    ill-of : (k at w v : ℕ) → w * 128 ^ k ≡ 268435456 → v < w → groups s (suc k) at w v ≡ IllFormed → Over s k at
+    ill-of : (k at w v : ℕ) → w * 128 ^ k ≡ 268435456 → v < w → groups s (suc k) at w v ≡ Err IllFormed → Over s k at
     ill-of zero at w v weight under e = by-test (ltb at (length s)) (ltb (get_or s at 0) 128) refl refl
       where
-        step : Next s 0 at w v IllFormed
-        step = next s 0 at w v IllFormed e
+        step : Next s 0 at w v (Err IllFormed)
+        step = next s 0 at w v (Err IllFormed) e
 
         place : at + 0 ≡ at
         place = omega arith
@@ -191,15 +194,15 @@ module _ (s : List ℕ) where
         by-test (ltb at (length s)) (ltb (get_or s at 0) 128) refl refl (λ h q.
         ill-of k (at + 1) (w * 128) _ (weight-on k w weight) h q)
       where
-        step : Next s (suc k) at w v IllFormed
-        step = next s (suc k) at w v IllFormed e
+        step : Next s (suc k) at w v (Err IllFormed)
+        step = next s (suc k) at w v (Err IllFormed) e
 
         low : w ≤ 2097152
         low = weight-low k w weight
 
         by-test : (t u : Bool) → ltb at (length s) ≡ t → ltb (get_or s at 0) 128 ≡ u
             → (v + (get_or s at 0 - 128) * w < w * 128
-            → groups s (suc k) (at + 1) (w * 128) (v + (get_or s at 0 - 128) * w) ≡ IllFormed → Over s k (at + 1))
+            → groups s (suc k) (at + 1) (w * 128) (v + (get_or s at 0 - 128) * w) ≡ Err IllFormed → Over s k (at + 1))
             → Over s (suc k) at
         by-test true true p q more =
             let byte = ltb-true (get_or s at 0) 128 q in
@@ -223,6 +226,7 @@ module _ (s : List ℕ) where
         by-test false u p q more = let x = step.none (ltb-false at (length s) p) in clash (cc)
 
     -- a number is ill-formed exactly if a fifth byte, behind four with the high bit, is over 0F
-    pub ill-formed : (at : ℕ) → (varint_at s at ≡ IllFormed → Over s 4 at) × (Over s 4 at → varint_at s at ≡ IllFormed)
+    pub ill-formed : (at : ℕ)
+        → (varint_at s at ≡ Err IllFormed → Over s 4 at) × (Over s 4 at → varint_at s at ≡ Err IllFormed)
     unfolding varint_at
     ill-formed at = (ill-of 4 at 1 0 refl (omega arith), of-ill 4 at 1 0 refl)

@@ -1,6 +1,7 @@
 -- A number is read exactly from its forms of one to five bytes; one form of each number is marked shortest.
 -- Why: the first group of a form is read, and the groups behind it are a form of the number without its low seven bits.
 -- Assumes nothing.
+use Rattle.std.specs.Prelude.{Result, Ok, Err}
 use mathlib.Core.Path.{◌≡◌, refl, sym, ap, ap₂, subst, ◌∙◌}
 use mathlib.Core.Bool.{Bool, true, false}
 use mathlib.Core.List.{List, [], ◌∷◌}
@@ -13,11 +14,12 @@ use lib.Seq.{drop-cons}
 use lib.Dec.{leb, ltb, eqb}
 use Rattle.common.specs.Outcome.{pick, either}
 use Rattle.common.proofs.Outcomes.{clash}
-use Rattle.row_spec.specs.Varint.{varint_at, groups, last_group, padded, least_from, groups_of, shortest}
+use Rattle.row_spec.specs.Varint.{varint, varint_at, groups, last_group, padded, least_from, groups_of, shortest}
 use Rattle.row_spec.specs.declared.Varint.{Varint}
-use Rattle.row_spec.specs.declared.Varint.TheVariants.{Number, CutShort}
+use Rattle.row_spec.specs.declared.ReadFault.{ReadFault}
+use Rattle.row_spec.specs.declared.ReadFault.TheVariants.{CutShort}
 use Rattle.row_laws.specs.Forms.{Bytes, Form}
-use Rattle.row_laws.proofs.Varints.{last_fits, last-large, groups-last, groups-more}
+use Rattle.row_laws.proofs.Varints.{same-ok, last_fits, last-large, groups-last, groups-more}
 
 -- ---- how many groups a number needs
 power_le : {i j : ℕ} → i ≤ j → 128 ^ i ≤ 128 ^ j
@@ -118,7 +120,8 @@ split s at k x l e = by-test (ltb at (length s)) refl
         let q = sym (front s at k there) ∙ e in
         record { there = there; byte = cc; rest = cc }
     by-test false h =
-        let none : take (suc k) (drop at s) ≡ [] = ap (take (suc k)) (drop_of_length-le s (ltb-false at (length s) h)) in
+        let none : take (suc k) (drop at s) ≡ [] =
+        ap (take (suc k)) (drop_of_length-le s (ltb-false at (length s) h)) in
         absurd (let z : 0 ≡ suc (length l) = ap length (sym none ∙ e) in omega arith)
 
 -- a low group and the groups above it
@@ -137,7 +140,7 @@ module _ (s : List ℕ) where
   abbrev Reads : ℕ → ℕ → ℕ → ℕ → ℕ → ℕ → Type 0
   Reads k j at w v n =
       suc k ≤ j → n < 128 ^ suc k → v + n * w ≤ 4294967295 → take (suc k) (drop at s) ≡ padded (suc k) n
-      → groups s j at w v ≡ Number (v + n * w) (at + suc k) (either (leb (128 ^ k) n) (leb (w * 128 ^ k) 1))
+      → groups s j at w v ≡ Ok (varint (v + n * w) (at + suc k) (either (leb (128 ^ k) n) (leb (w * 128 ^ k) 1)))
 
   reads-last : (j at w v n : ℕ) → Reads zero j at w v n
   unfolding padded
@@ -148,7 +151,7 @@ module _ (s : List ℕ) where
       groups-last s j at w v (omega arith) f.there small
       ∙ ap (λ (b : ℕ). last_group b w v (at + 1)) f.byte
       ∙ last_fits n w v (at + 1) most
-      ∙ ap (λ (x : ℕ). Number (v + n * w) (at + 1) (either (ltb 0 n) (leb x 1))) (sym weight)
+      ∙ ap (λ (x : ℕ). Ok (varint (v + n * w) (at + 1) (either (ltb 0 n) (leb x 1)))) (sym weight)
 
   reads_more : (k j at w v n : ℕ) → ((at w v n : ℕ) → Reads k (j - 1) at w v n) → Reads (suc k) j at w v n
   unfolding padded
@@ -164,8 +167,8 @@ module _ (s : List ℕ) where
       groups-more s j at w v (omega arith) f.there high
       ∙ ap (λ (x : ℕ). groups s (j - 1) (at + 1) (w * 128) (v + x * w)) low
       ∙ more (at + 1) (w * 128) (v + n % 128 * w) (n / 128) (omega arith) (omega arith) (omega (arith, sum)) f.rest
-      ∙ ap₂ (λ (x y : ℕ). Number x y (either (leb (128 ^ k) (n / 128)) (leb (w * 128 * 128 ^ k) 1))) sum place
-      ∙ ap₂ (λ (x y : Bool). Number (v + n * w) (at + suc (suc k)) (either x y)) upper weight
+      ∙ ap₂ (λ (x y : ℕ). Ok (varint x y (either (leb (128 ^ k) (n / 128)) (leb (w * 128 * 128 ^ k) 1)))) sum place
+      ∙ ap₂ (λ (x y : Bool). Ok (varint (v + n * w) (at + suc (suc k)) (either x y))) upper weight
     where
       upper : leb (128 ^ k) (n / 128) ≡ leb (128 ^ suc k) n
       upper = by-test (leb (128 ^ k) (n / 128)) refl
@@ -202,7 +205,7 @@ record Ends (s : List ℕ) (j at w v n next : ℕ) : Type 0 where
 
 module _ (s : List ℕ) (small : Bytes s) (n next : ℕ) (short : Bool) where
   ends_last : (j at w v : ℕ) → at < length s → get_or s at 0 < 128
-      → last_group (get_or s at 0) w v (at + 1) ≡ Number n next short → Ends s (suc j) at w v n next
+      → last_group (get_or s at 0) w v (at + 1) ≡ Ok (varint n next short) → Ends s (suc j) at w v n next
   unfolding padded
   ends_last j at w v there low e = by-test (leb (v + get_or s at 0 * w) 4294967295) refl
     where
@@ -210,12 +213,13 @@ module _ (s : List ℕ) (small : Bytes s) (n next : ℕ) (short : Bool) where
       by-test true q =
           let fits = leb-true (v + get_or s at 0 * w) 4294967295 q in
           let r = sym (last_fits (get_or s at 0) w v (at + 1) fits) ∙ e in
-          let is : v + get_or s at 0 * w ≡ n = cc in
+          let same = same-ok (sym r) in
+          let is : v + get_or s at 0 * w ≡ n = sym (ap (λ (x : Varint). x.number) same) in
           record {
             k = 0;
             x = get_or s at 0;
             room = omega arith;
-            place = cc;
+            place = ap (λ (x : Varint). x.next) same;
             holds = low;
             is = sym is;
             most = omega arith;
@@ -247,18 +251,18 @@ module _ (s : List ℕ) (small : Bytes s) (n next : ℕ) (short : Bool) where
             ∙ ap₂ (λ (b : ℕ) (l : List ℕ). b ∷ l) low (r.bytes ∙ ap (padded (suc r.k)) rest);
       }
 
-  ends : (j at w v : ℕ) → groups s j at w v ≡ Number n next short → Ends s j at w v n next
+  ends : (j at w v : ℕ) → groups s j at w v ≡ Ok (varint n next short) → Ends s j at w v n next
   unfolding groups
   ends zero at w v e = clash (cc)
   ends (suc j) at w v e =
       by-test (ltb at (length s)) (ltb (get_or s at 0) 128) refl refl e (λ q. ends j (at + 1) (w * 128) _ q)
     where
-      rest : Varint
+      rest : Result Varint ReadFault
       rest = groups s j (at + 1) (w * 128) (v + (get_or s at 0 - 128) * w)
 
       by-test : (t u : Bool) → ltb at (length s) ≡ t → ltb (get_or s at 0) 128 ≡ u
-          → pick t (pick u (last_group (get_or s at 0) w v (at + 1)) rest) CutShort ≡ Number n next short
-          → (rest ≡ Number n next short → Ends s j (at + 1) (w * 128) (v + (get_or s at 0 - 128) * w) n next)
+          → pick t (pick u (last_group (get_or s at 0) w v (at + 1)) rest) (Err CutShort) ≡ Ok (varint n next short)
+          → (rest ≡ Ok (varint n next short) → Ends s j (at + 1) (w * 128) (v + (get_or s at 0 - 128) * w) n next)
           → Ends s (suc j) at w v n next
       by-test true true t u q more =
           ends_last j at w v (ltb-true at (length s) t) (ltb-true (get_or s at 0) 128 u) q
@@ -268,23 +272,26 @@ module _ (s : List ℕ) (small : Bytes s) (n next : ℕ) (short : Bool) where
 
 -- ---- the laws
 form-reads : (s : List ℕ) (at k n : ℕ) → suc k ≤ 5 → n < 128 ^ suc k → n ≤ 4294967295
-    → take (suc k) (drop at s) ≡ padded (suc k) n → varint_at s at ≡ Number n (at + suc k) (eqb (suc k) (groups_of n))
+    → take (suc k) (drop at s) ≡ padded (suc k) n
+    → varint_at s at ≡ Ok (varint n (at + suc k) (eqb (suc k) (groups_of n)))
 unfolding varint_at
 form-reads s at k n few holds most e =
     let is : 0 + n * 1 ≡ n = omega arith in
     reads s k 5 at 1 0 n few holds (omega arith) e
-    ∙ ap₂ (λ (m : ℕ) (t : Bool). Number m (at + suc k) t) is (groups-mark k n (omega arith) holds)
+    ∙ ap₂ (λ (m : ℕ) (t : Bool). Ok (varint m (at + suc k) t)) is (groups-mark k n (omega arith) holds)
 
 -- every form of one to five bytes is read, with its mark
-pub form-read : (s : List ℕ) (at k n : ℕ) (short : Bool) → Form s at k n short → varint_at s at ≡ Number n (at + k) short
+pub form-read : (s : List ℕ) (at k n : ℕ) (short : Bool) → Form s at k n short
+    → varint_at s at ≡ Ok (varint n (at + k) short)
 form-read s at zero n short f = absurd (let none = f.some in omega arith)
 form-read s at (suc k) n short f =
     form-reads s at k n f.few f.holds f.most f.bytes
-    ∙ ap (λ (t : Bool). Number n (at + suc k) t) (sym f.mark)
+    ∙ ap (λ (t : Bool). Ok (varint n (at + suc k) t)) (sym f.mark)
 
 module _ (s : List ℕ) (small : Bytes s) (at n : ℕ) (short : Bool) where
   -- what is read is a form
-  pub read-form : (next : ℕ) → varint_at s at ≡ Number n next short → (next ≡ at + (next - at)) × Form s at (next - at) n short
+  pub read-form : (next : ℕ) → varint_at s at ≡ Ok (varint n next short)
+      → (next ≡ at + (next - at)) × Form s at (next - at) n short
   unfolding varint_at
   read-form next e =
       let r = ends s small n next short 5 at 1 0 e in
@@ -293,8 +300,8 @@ module _ (s : List ℕ) (small : Bytes s) (at n : ℕ) (short : Bool) where
       let holds : n < 128 ^ suc r.k = subst (λ (m : ℕ). m < 128 ^ suc r.k) is r.holds in
       let bytes = r.bytes ∙ ap (padded (suc r.k)) is in
       let again = form-reads s at r.k n r.room holds r.most bytes in
-      let same = sym again ∙ e in
-      let mark : short ≡ eqb (suc r.k) (groups_of n) = cc in
+      let same = same-ok (sym e ∙ again) in
+      let mark : short ≡ eqb (suc r.k) (groups_of n) = ap (λ (x : Varint). x.shortest) same in
       let form : Form s at (suc r.k) n short = record {
         some = omega arith;
         few = r.room;
@@ -307,14 +314,14 @@ module _ (s : List ℕ) (small : Bytes s) (at n : ℕ) (short : Bool) where
 
   -- a number is read from k bytes exactly if they are a form of it
   pub number-forms : (k : ℕ)
-      → (varint_at s at ≡ Number n (at + k) short → Form s at k n short)
-      × (Form s at k n short → varint_at s at ≡ Number n (at + k) short)
+      → (varint_at s at ≡ Ok (varint n (at + k) short) → Form s at k n short)
+      × (Form s at k n short → varint_at s at ≡ Ok (varint n (at + k) short))
   number-forms k =
       let used : at + k - at ≡ k = omega arith in
       (λ e. subst (λ (j : ℕ). Form s at j n short) used (read-form (at + k) e).1, form-read s at k n short)
 
 -- bytes marked shortest are the shortest form of their number
-pub shortest-form : (s : List ℕ) → Bytes s → (at n next : ℕ) → varint_at s at ≡ Number n next true
+pub shortest-form : (s : List ℕ) → Bytes s → (at n next : ℕ) → varint_at s at ≡ Ok (varint n next true)
     → take (next - at) (drop at s) ≡ shortest n
 unfolding shortest
 shortest-form s small at n next e =
@@ -324,12 +331,13 @@ shortest-form s small at n next e =
 
 -- two readings of one number, both marked shortest, are of the same bytes
 pub one-shortest : (s t : List ℕ) → Bytes s → Bytes t → (n at next to then : ℕ)
-    → varint_at s at ≡ Number n next true → varint_at t to ≡ Number n then true
+    → varint_at s at ≡ Ok (varint n next true) → varint_at t to ≡ Ok (varint n then true)
     → take (next - at) (drop at s) ≡ take (then - to) (drop to t)
-one-shortest s t small few n at next to then e f = shortest-form s small at n next e ∙ sym (shortest-form t few to n then f)
+one-shortest s t small few n at next to then e f =
+    shortest-form s small at n next e ∙ sym (shortest-form t few to n then f)
 
 -- no form of a number has fewer bytes than the one marked shortest
-pub no-shorter : (s : List ℕ) → Bytes s → (at n next : ℕ) (short : Bool) → varint_at s at ≡ Number n next short
+pub no-shorter : (s : List ℕ) → Bytes s → (at n next : ℕ) (short : Bool) → varint_at s at ≡ Ok (varint n next short)
     → groups_of n ≤ next - at
 no-shorter s small at n next short e =
     let f = (read-form s small at n short next e).1 in

@@ -163,7 +163,8 @@ module _ (width : ℕ) (rs : List (List Field)) (p room : ℕ) (wide : Wide widt
   -- field c of row k of the page is that of row p + k
   pub page-at : (k c : ℕ) → k < (page_of width rs p room).given → c < width
       → (p + k < length rs)
-      × (get_or (page_of width rs p room).fields (k * width + c) field.Null ≡ get_or (get_or rs (p + k) []) c field.Null)
+      × (get_or (page_of width rs p room).fields (k * width + c) field.Null
+      ≡ get_or (get_or rs (p + k) []) c field.Null)
   unfolding page_of rows_from
   page-at k c h less =
       let x = taken_at rs p (room / (3 * width)) k [] h in

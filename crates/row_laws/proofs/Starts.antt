@@ -1,6 +1,7 @@
 -- Of accepted rows: there are as many as were to be read, each starts where the one before ends, which is its offset,
 -- and each field stands where the fields before it end.
 -- Assumes nothing.
+use Rattle.std.specs.Prelude.{Ok, Err}
 use mathlib.Core.Path.{◌≡◌, refl, sym, ap, ◌∙◌}
 use mathlib.Core.Bool.{Bool, true, false}
 use mathlib.Core.List.{List, [], ◌∷◌, ◌++◌}
@@ -14,12 +15,13 @@ use lib.Dec.{leb, eqb}
 use Rattle.common.specs.Outcome.{pick, Outcome, found}
 use Rattle.common.specs.Bytes.{ceil8, little_at, low_spare_zero}
 use Rattle.row_spec.specs.Schema.{blank_column}
+use Rattle.row_spec.specs.Read.{read}
+use Rattle.row_spec.specs.Value.{Value}
 use Rattle.row_spec.specs.Block.{Row, field_at, fields, row, rows}
 use Rattle.row_spec.specs.declared.Column.{Column}
 use Rattle.row_spec.specs.declared.Field.{Field}
 use Rattle.row_spec.specs.declared.Field.TheVariants.{Null}
-use Rattle.row_spec.specs.declared.Value.{Value}
-use Rattle.row_spec.specs.declared.Value.TheVariants.{Read, CutShort, Bad}
+use Rattle.row_spec.specs.declared.ReadFault.TheVariants.{CutShort, IllFormed}
 use Rattle.common.proofs.Outcomes.{clash, same-found, then_found}
 use Rattle.row_laws.specs.Shown.{end_of, field_start, row_start}
 use Rattle.row_laws.proofs.Read.{need-found}
@@ -46,7 +48,7 @@ module _ (s : List ℕ) (cols : List Column) (base : ℕ) where
 
   -- field j is f, and the next starts where it ends
   abbrev pub Stands : ℕ → Field → Type 0
-  Stands j f = field_here j ≡ Read f (field_start s cols base (suc j))
+  Stands j f = field_here j ≡ Ok (read f (field_start s cols base (suc j)))
 
   pub record Fields (i : ℕ) (fs : List Field) : Type 0 where
     pub many : length fs ≡ i
@@ -62,7 +64,7 @@ module _ (s : List ℕ) (cols : List Column) (base : ℕ) where
         each = kept-each Stands Null fs f i h.many h.each g;
       }
 
-  field-ends : (i : ℕ) (f : Field) (next : ℕ) → field_here i ≡ Read f next → field_start s cols base (suc i) ≡ next
+  field-ends : (i : ℕ) (f : Field) (next : ℕ) → field_here i ≡ Ok (read f next) → field_start s cols base (suc i) ≡ next
   unfolding field_start
   field-ends i f next p = ap end_of p
 
@@ -93,12 +95,15 @@ module _ (s : List ℕ) (cols : List Column) (base : ℕ) where
 
       by_value : ((more : List Field) → Fields (suc i) more → rest (suc i) more ≡ found x → RowStands x)
           → (v : Value) → field_here i ≡ v → RowStands x
-      by_value g CutShort p = let q = fields-cut s base i at cols done blank_column less p in clash (cc)
-      by_value g Bad p = let q = fields-bad s base i at cols done blank_column less p in clash (cc)
-      by_value g (Read f next) p =
+      by_value g (Err CutShort) p = let q = fields-cut s base i at cols done blank_column less p in clash (cc)
+      by_value g (Err IllFormed) p = let q = fields-bad s base i at cols done blank_column less p in clash (cc)
+      by_value g (Ok r) p =
+          let f = r.value in
+          let next = r.next in
           let w : field_start s cols base (suc i) ≡ next = field-ends i f next p in
           let q = fields-more s base i at cols done blank_column less f next p in
-          g (done ++ (f ∷ [])) (one_field i done f h (p ∙ ap (Read f) (sym w))) (rw w (rw add-one at (sym q ∙ e)))
+          g (done ++ (f ∷ [])) (one_field i done f h (p ∙ ap (λ (n : ℕ). Ok (read f n)) (sym w)))
+          (rw w (rw add-one at (sym q ∙ e)))
 
   pub row-stands : (x : Row) → row s cols base ≡ found x → RowStands x
   unfolding row field_start

@@ -1,5 +1,6 @@
 -- No question about schemas and row blocks is refused with 0, and a page is refused as the count of rows is.
 -- Assumes nothing.
+use Rattle.std.specs.Prelude.{Result, Ok, Err}
 use mathlib.Core.Path.{◌≡◌, refl}
 use mathlib.Core.List.{List, [], ◌∷◌, ◌++◌}
 use Prim.Native.Nat.{ℕ, zero, suc, ◌+◌, ◌-◌, ◌*◌}
@@ -10,29 +11,28 @@ use Rattle.common.specs.Bytes.{ceil8, little_at}
 use Rattle.common.proofs.Outcomes.{found-numbered, refused-numbered, need-numbered, then-numbered, told-numbered}
 use Rattle.row_spec.specs.Varint.{on_varint}
 use Rattle.row_spec.specs.Schema.{schema, column_count, column_of}
-use Rattle.row_spec.specs.Value.{on_value}
+use Rattle.row_spec.specs.Value.{Value, on_value}
 use Rattle.row_spec.specs.Block.{field_at, fields, row, rows, counted, block, asked, row_count, block_field}
 use Rattle.row_spec.specs.Page.{block_page}
 use Rattle.row_spec.specs.declared.Column.{Column}
 use Rattle.row_spec.specs.declared.Field.{Field}
 use Rattle.row_spec.specs.declared.Varint.{Varint}
-use Rattle.row_spec.specs.declared.Varint.TheVariants as varint
-use Rattle.row_spec.specs.declared.Value.{Value}
-use Rattle.row_spec.specs.declared.Value.TheVariants.{Read, CutShort, Bad}
+use Rattle.row_spec.specs.declared.ReadFault.{ReadFault}
+use Rattle.row_spec.specs.declared.ReadFault.TheVariants.{CutShort, IllFormed}
 use Rattle.row_laws.proofs.Read.{schema-refused}
 
 -- ---- by what was read
-pub on-varint-numbered : {A : Type 0} (r : Varint) (cut ill : ℕ) (f : ℕ → ℕ → Outcome A)
+pub on-varint-numbered : {A : Type 0} (r : Result Varint ReadFault) (cut ill : ℕ) (f : ℕ → ℕ → Outcome A)
     → ((n next : ℕ) → Numbered (f n next)) → Numbered (on_varint r (refused (suc cut)) (refused (suc ill)) f)
-on-varint-numbered varint.CutShort cut ill f h = refused-numbered cut
-on-varint-numbered varint.IllFormed cut ill f h = refused-numbered ill
-on-varint-numbered (varint.Number n next short) cut ill f h = h n next
+on-varint-numbered (Err CutShort) cut ill f h = refused-numbered cut
+on-varint-numbered (Err IllFormed) cut ill f h = refused-numbered ill
+on-varint-numbered (Ok r) cut ill f h = h r.number r.next
 
 pub on-value-numbered : {A : Type 0} (v : Value) (cut bad : ℕ) (f : Field → ℕ → Outcome A)
     → ((x : Field) (next : ℕ) → Numbered (f x next)) → Numbered (on_value v (refused (suc cut)) (refused (suc bad)) f)
-on-value-numbered CutShort cut bad f h = refused-numbered cut
-on-value-numbered Bad cut bad f h = refused-numbered bad
-on-value-numbered (Read x next) cut bad f h = h x next
+on-value-numbered (Err CutShort) cut bad f h = refused-numbered cut
+on-value-numbered (Err IllFormed) cut bad f h = refused-numbered bad
+on-value-numbered (Ok r) cut bad f h = h r.value r.next
 
 -- ---- schemas: their one refusal is 20
 pub schema-numbered : (d : List ℕ) → Numbered (schema d)

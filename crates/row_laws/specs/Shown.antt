@@ -1,16 +1,15 @@
 -- What an accepted row block shows: where its rows and fields start, and what each field is.
-use Rattle.std.specs.Prelude.{ℕ, zero, suc, ◌+◌, ◌-◌, ◌*◌, ◌<◌, ◌≡◌, true, false, List, length, get_or, take}
+use Rattle.std.specs.Prelude.{Ok, ℕ, zero, suc, ◌+◌, ◌-◌, ◌*◌, ◌<◌, ◌≡◌, true, false, List, length, get_or, take}
 use Rattle.common.specs.Outcome.{found}
 use Rattle.common.specs.Bytes.{ceil8, little_at, low_bit}
 use Rattle.row_spec.specs.Schema.{schema, blank_column}
-use Rattle.row_spec.specs.Value.{value_at, on_value}
+use Rattle.row_spec.specs.Read.{read}
+use Rattle.row_spec.specs.Value.{Value, value_at, on_value}
 use Rattle.row_spec.specs.Block.{field_at, block}
 use Rattle.row_spec.specs.Answer.{inside}
 use Rattle.row_spec.specs.declared.Column.{Column}
 use Rattle.row_spec.specs.declared.Field.{Field}
 use Rattle.row_spec.specs.declared.Field.TheVariants.{Null}
-use Rattle.row_spec.specs.declared.Value.{Value}
-use Rattle.row_spec.specs.declared.Value.TheVariants.{Read}
 
 -- where a value that was read ends
 abbrev pub end_of : Value → ℕ
@@ -62,7 +61,7 @@ pub record Shows (cols : List Column) (s : List ℕ) (r c : ℕ) (f : Field) : T
   pub allowed : f ≡ Null → (get_or cols c blank_column).nullable ≡ true
   pub value : (null_bit cols s r c ≡ 1 → ⊥)
       → value_at false (row_bytes s) (field_place cols s r c) (get_or cols c blank_column).ty
-      ≡ Read f (field_place cols s r (suc c))
+      ≡ Ok (read f (field_place cols s r (suc c)))
   pub within : inside (length s) f ≡ true
 
 -- a question that was answered with f: schema and block are accepted, row and column exist, and f is the stored field

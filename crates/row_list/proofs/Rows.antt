@@ -1,6 +1,7 @@
 -- A row's fields stand one after the other behind its null bits, and a row where the one before ends: so a run lists
 -- a row, and rows listed one after the other are a page.
 -- Assumes nothing.
+use Rattle.std.specs.Prelude.{Some, Ok, Err}
 use mathlib.Core.Path.{◌≡◌, refl, sym, ap, ◌∙◌}
 use mathlib.Core.Bool.{Bool, true, false}
 use mathlib.Core.List.{List, [], ◌∷◌, ◌++◌, map, flatten, flat_map, append-nil}
@@ -17,7 +18,8 @@ use Rattle.common.specs.Bytes.{ceil8, little_at, low_bit}
 use Rattle.common.proofs.Outcomes.{clash}
 use Rattle.common.proofs.Lists.{both_left, both_right}
 use Rattle.row_spec.specs.Schema.{blank_column}
-use Rattle.row_spec.specs.Value.{value_at}
+use Rattle.row_spec.specs.Read.{read}
+use Rattle.row_spec.specs.Value.{Value, value_at}
 use Rattle.row_spec.specs.Block.{Row, field_at, row, rows, counted, block}
 use Rattle.row_spec.specs.Page.{written, rows_from, page_of}
 use Rattle.row_spec.specs.declared.Column.{Column}
@@ -25,8 +27,7 @@ use Rattle.row_spec.specs.declared.Field.{Field}
 use Rattle.row_spec.specs.declared.Field.TheVariants.{Null}
 use Rattle.row_spec.specs.declared.Storage.{Storage}
 use Rattle.row_spec.specs.declared.Storage.TheVariants.{Boolean}
-use Rattle.row_spec.specs.declared.Value.{Value}
-use Rattle.row_spec.specs.declared.Value.TheVariants.{Read, Bad}
+use Rattle.row_spec.specs.declared.ReadFault.TheVariants.{IllFormed}
 use Rattle.row_laws.specs.Shown.{field_start, row_start, count_of, offsets_at}
 use Rattle.row_laws.proofs.Read.{need-found}
 use Rattle.row_laws.proofs.Starts.{row-stands, rows-many, rows-offset, rows-here}
@@ -39,14 +40,15 @@ use Rattle.row_list.specs.Rows.{row_storage, RowListed, RowsStand, RowsListed, B
 -- ---- a row
 -- a field that was read is null or a value, whether or not its column may be null
 read-so : (t nullable : Bool) (at : ℕ) (v : Value) (f : Field) (next : ℕ)
-    → pick t (pick nullable (Read Null at) Bad) v ≡ Read f next → pick t (Read Null at) v ≡ Read f next
+    → pick t (pick nullable (Ok (read Null at)) (Err IllFormed)) v ≡ Ok (read f next)
+    → pick t (Ok (read Null at)) v ≡ Ok (read f next)
 read-so false nullable at v f next e = e
 read-so true true at v f next e = e
 read-so true false at v f next e = clash (cc)
 
 -- how the fields of a row at at lie
 abbrev pub row_run : ℕ → Run
-row_run at = record { big = false; same = false; mapped = true; nulls = at; bit = 0 }
+row_run at = record { big = false; same = false; nulls = Some at; bit = 0 }
 
 module _ (s : List ℕ) (sts : List Storage) (n at : ℕ) (enough : n ≤ length sts) where
   module _ (cols : List Column) (stored : take n sts ≡ map row_storage cols) where

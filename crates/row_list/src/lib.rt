@@ -6,8 +6,8 @@ ghost use Rattle.row_spec.specs.Schema.{columns_of};
 ghost use Rattle.row_spec.specs.Page.{block_page, Paged};
 ghost use Rattle.row_list.specs.Rows.{row_storage, RowListed, RowsListed, BlockListed};
 
-use row_judge::BlockRead;
-use row_spec::{PageAnswer, Schema, Storage};
+use common::Refusal;
+use row_spec::{PageCounts, Schema, Storage};
 use value_list::Run;
 
 // How the values of each column are stored, in the order of the columns.
@@ -17,12 +17,8 @@ fn storages_of(sc: Schema) -> [Storage; 64]
 {
     let n = sc.count;
     let mut storages = [Storage::Boolean; 64];
-    let mut i = 0;
-    while i < n {
-        let c = sc.columns[i];
-        let t = c.ty;
-        storages[i] = values::storage_of(false, t);
-        i += 1;
+    for i in 0..n {
+        storages[i] = values::storage_of(false, sc.columns[i].ty);
     }
     storages
 }
@@ -46,8 +42,7 @@ fn list_row(
     let run = Run {
         big: false,
         same: false,
-        mapped: true,
-        nulls: at,
+        nulls: Some(at),
         bit: 0,
     };
     value_list::list_run(s, storages, run, n, at + w, list, k)
@@ -62,11 +57,9 @@ fn list_rows(s: &[u8], sc: Schema, from: usize, given: usize, list: &mut [u64])
     let storages = storages_of(sc);
     let mut at = from;
     let mut k = 0;
-    let mut r = 0;
-    while r < given {
+    for r in 0..given {
         at = list_row(s, storages, n, at, list, k);
         k += 3 * n;
-        r += 1;
     }
 }
 
@@ -86,23 +79,19 @@ fn list_block(s: &[u8], sc: Schema, rows: usize, place: usize, list: &mut [u64])
 }
 
 // The fields of the rows from place on, as many whole rows as the list takes.
-pub fn page(schema_bytes: &[u8], block: &[u8], place: u32, list: &mut [u64]) -> PageAnswer
+pub fn page(
+    schema_bytes: &[u8],
+    block: &[u8],
+    place: u32,
+    list: &mut [u64],
+) -> Result<PageCounts, Refusal>
     ensures { Paged (block_page schema_bytes.now block.now place (length list.old)) result list.old list.new }
 {
-    let read = schema::read(schema_bytes);
-    let refused = read.refused;
-    if refused != 0 {
-        return PageAnswer::Refused(refused);
-    }
-    let schema = read.schema;
-    match row_judge::judge(block, schema, 0, 0) {
-        BlockRead::Refused(n) => PageAnswer::Refused(n),
-        BlockRead::Rows(n, _) => {
-            let given = list_block(block, schema, n as usize, place as usize, list);
-            PageAnswer::Page {
-                given: given as u32,
-                rows: n,
-            }
-        }
-    }
+    let schema = schema::read(schema_bytes)?;
+    let judged = row_judge::judge(block, schema, 0, 0)?;
+    let given = list_block(block, schema, judged.rows as usize, place as usize, list);
+    Ok(PageCounts {
+        given: given as u32,
+        rows: judged.rows,
+    })
 }

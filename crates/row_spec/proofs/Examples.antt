@@ -18,7 +18,9 @@ abbrev pub row_block : List ℕ
 row_block = 0 ∷ 5 ∷ 0 ∷ 0 ∷ 0 ∷ 0 ∷ 0 ∷ 0 ∷ 0 ∷ 1 ∷ 0 ∷ 0 ∷ 0 ∷ []
 
 pub row_line : then (schema row_schema) (λ cols. block cols row_block) ≡ found ((Whole (pos 5) ∷ []) ∷ [])
-unfolding need ceil8 little_at signed_of low_bit low_spare_zero varint_at groups last_group schema columns_from column_at type_at types numbered decimal value_at stored_at whole_at word_at room block counted rows row fields field_at
+unfolding need ceil8 little_at signed_of low_bit low_spare_zero varint_at groups last_group schema columns_from
+    column_at type_at types numbered decimal value_at stored_at whole_at word_at room block counted rows row fields
+    field_at
 row_line = refl
 
 -- a page of its one row, or of none
@@ -27,11 +29,14 @@ row_page fs given = found (record { fields = fs; given = given; rows = 1 })
 
 -- from row 0 on with room for three numbers, with room for two, and from row 1 on
 abbrev pub row_pages : List (Outcome Page)
-row_pages = block_page row_schema row_block 0 3 ∷ block_page row_schema row_block 0 2 ∷ block_page row_schema row_block 1 3 ∷ []
+row_pages = block_page row_schema row_block 0 3 ∷ block_page row_schema row_block 0 2 ∷ block_page row_schema row_block
+    1 3 ∷ []
 
 pub page-line : row_pages ≡ row_page (Whole (pos 5) ∷ []) 1 ∷ row_page [] 0 ∷ row_page [] 0 ∷ []
-unfolding need ceil8 little_at signed_of low_bit low_spare_zero varint_at groups last_group schema columns_from column_at
-    type_at types numbered decimal value_at stored_at whole_at word_at room block counted rows row fields field_at block_page
+unfolding need ceil8 little_at signed_of low_bit low_spare_zero varint_at groups last_group schema columns_from
+    column_at
+    type_at types numbered decimal value_at stored_at whole_at word_at room block counted rows row fields field_at
+    block_page
     page_of rows_from flatten
 page-line = refl
 

@@ -1,33 +1,34 @@
--- Numbers in groups of seven bits, shortest and padded, cut short and ill-formed; 02's text of one byte after a padded length.
-use Rattle.std.specs.Prelude.{ℕ, ◌≡◌, refl, true, false, List, [], ◌∷◌}
+-- Numbers in groups of seven bits, shortest and padded, cut short and ill-formed; 02's text of one byte after a padded
+-- length.
+use Rattle.std.specs.Prelude.{ℕ, Ok, Err, ◌≡◌, refl, true, false, List, [], ◌∷◌}
 use Rattle.common.specs.Outcome.{then, found, need}
 use Rattle.common.specs.Bytes.{ceil8, little_at, low_bit, low_spare_zero}
-use Rattle.row_spec.specs.Varint.{varint_at, groups, last_group, padded, least_from, groups_of, shortest}
+use Rattle.row_spec.specs.Varint.{varint, varint_at, groups, last_group, padded, least_from, groups_of, shortest}
 use Rattle.row_spec.specs.Schema.{schema, columns_from, column_at, type_at, types, numbered, decimal}
 use Rattle.row_spec.specs.Value.{value_at, stored_at, sized_of, room}
 use Rattle.row_spec.specs.Block.{block, counted, rows, row, fields, field_at}
 use Rattle.row_spec.specs.declared.Field.TheVariants.{Place}
-use Rattle.row_spec.specs.declared.Varint.TheVariants.{Number, CutShort, IllFormed}
+use Rattle.row_spec.specs.declared.ReadFault.TheVariants.{CutShort, IllFormed}
 
 -- one byte is shortest, `00` too; `80 00` and `80 80 80 80 00` are 0, padded
-pub zeros : (varint_at (0 ∷ []) 0 ≡ Number 0 1 true)
-    × (varint_at (128 ∷ 0 ∷ []) 0 ≡ Number 0 2 false)
-    × (varint_at (128 ∷ 128 ∷ 128 ∷ 128 ∷ 0 ∷ []) 0 ≡ Number 0 5 false)
+pub zeros : (varint_at (0 ∷ []) 0 ≡ Ok (varint 0 1 true))
+    × (varint_at (128 ∷ 0 ∷ []) 0 ≡ Ok (varint 0 2 false))
+    × (varint_at (128 ∷ 128 ∷ 128 ∷ 128 ∷ 0 ∷ []) 0 ≡ Ok (varint 0 5 false))
 unfolding varint_at groups last_group
 zeros = (refl, refl, refl)
 
 -- the largest number; a fifth byte over 0F is ill-formed
-pub largest : (varint_at (255 ∷ 255 ∷ 255 ∷ 255 ∷ 15 ∷ []) 0 ≡ Number 4294967295 5 true)
-    × (varint_at (128 ∷ 128 ∷ 128 ∷ 128 ∷ 16 ∷ []) 0 ≡ IllFormed)
-    × (varint_at (255 ∷ 255 ∷ 255 ∷ 255 ∷ 127 ∷ []) 0 ≡ IllFormed)
+pub largest : (varint_at (255 ∷ 255 ∷ 255 ∷ 255 ∷ 15 ∷ []) 0 ≡ Ok (varint 4294967295 5 true))
+    × (varint_at (128 ∷ 128 ∷ 128 ∷ 128 ∷ 16 ∷ []) 0 ≡ Err IllFormed)
+    × (varint_at (255 ∷ 255 ∷ 255 ∷ 255 ∷ 127 ∷ []) 0 ≡ Err IllFormed)
 unfolding varint_at groups last_group
 largest = (refl, refl, refl)
 
 -- five high bits are ill-formed, also where the bytes end; fewer, and the end, are cut short
-pub high_bits : (varint_at (128 ∷ 128 ∷ 128 ∷ 128 ∷ 128 ∷ []) 0 ≡ IllFormed)
-    × (varint_at (128 ∷ 128 ∷ 128 ∷ 128 ∷ 128 ∷ 1 ∷ []) 0 ≡ IllFormed)
-    × (varint_at (128 ∷ 128 ∷ 128 ∷ 128 ∷ []) 0 ≡ CutShort)
-    × (varint_at [] 0 ≡ CutShort)
+pub high_bits : (varint_at (128 ∷ 128 ∷ 128 ∷ 128 ∷ 128 ∷ []) 0 ≡ Err IllFormed)
+    × (varint_at (128 ∷ 128 ∷ 128 ∷ 128 ∷ 128 ∷ 1 ∷ []) 0 ≡ Err IllFormed)
+    × (varint_at (128 ∷ 128 ∷ 128 ∷ 128 ∷ []) 0 ≡ Err CutShort)
+    × (varint_at [] 0 ≡ Err CutShort)
 unfolding varint_at groups last_group
 high_bits = (refl, refl, refl, refl)
 
@@ -53,6 +54,7 @@ padded_block = 0 ∷ 129 ∷ 128 ∷ 0 ∷ 65 ∷ 0 ∷ 0 ∷ 0 ∷ 0 ∷ 1 ∷ 
 
 pub padded-line : (then (schema text_schema) (λ cols. block cols padded_block) ≡ found ((Place 4 1 ∷ []) ∷ []))
     × (schema padded_schema ≡ schema text_schema)
-unfolding need ceil8 little_at low_bit low_spare_zero varint_at groups last_group schema columns_from column_at type_at types numbered
+unfolding need ceil8 little_at low_bit low_spare_zero varint_at groups last_group schema columns_from column_at type_at
+    types numbered
     decimal value_at stored_at sized_of room block counted rows row fields field_at
 padded-line = (refl, refl)

@@ -1,50 +1,32 @@
 -- What each case of an answer is: 01's number and values.
-use Rattle.std.specs.Prelude.{ℕ, ◌+◌, Bool, true, ◌≡◌, List, [], take, drop, leb, ℤ, pos}
+use Rattle.std.specs.Prelude.{ℕ, ◌+◌, Result, Ok, Err, Bool, true, ◌≡◌, List, [], take, drop, leb, ℤ, pos}
 use Rattle.std.specs.Float.{binary32, binary64}
 use Rattle.std.specs.Float.Ieee.{to_bits}
 use Rattle.common.specs.Outcome.{one, Outcome, refused, found}
 pub use Rattle.common.specs.Outcome.{after}
-use Rattle.row_spec.specs.declared.Column.{Column}
 use Rattle.row_spec.specs.declared.ColumnType.{ColumnType}
 use Rattle.row_spec.specs.declared.ColumnType.TheVariants as type
 use Rattle.row_spec.specs.declared.Field.{Field}
 use Rattle.row_spec.specs.declared.Field.TheVariants as field
 use Rattle.row_spec.specs.declared.Varint.{Varint}
-use Rattle.row_spec.specs.declared.Varint.TheVariants as number
+use Rattle.row_spec.specs.declared.ReadFault.{ReadFault}
+use Rattle.row_spec.specs.declared.ReadFault.TheVariants.{CutShort, IllFormed}
 use Rattle.row_spec.specs.declared.NumberShown.{NumberShown}
 use Rattle.row_spec.specs.declared.Shown.{Shown}
 use Rattle.row_spec.specs.declared.TypeShown.{TypeShown}
-use Rattle.row_spec.specs.declared.CountAnswer.{CountAnswer}
-use Rattle.row_spec.specs.declared.CountAnswer.TheVariants as count
-use Rattle.row_spec.specs.declared.ColumnAnswer.{ColumnAnswer}
-use Rattle.row_spec.specs.declared.ColumnAnswer.TheVariants as column
-use Rattle.row_spec.specs.declared.FieldAnswer.{FieldAnswer}
-use Rattle.row_spec.specs.declared.FieldAnswer.TheVariants as asked
 
--- a number that was read from the front of bytes, as plain numbers: 0 a number, 1 cut short, 2 ill-formed; then the value, "how many
--- bytes it used and whether it was shortest"; what a case does not use is 0
+-- a number that was read from the front of bytes, as plain numbers: 0 a number, 1 cut short, 2 ill-formed; then the
+-- value, "how many bytes it used and whether it was shortest"; what a case does not use is 0
 abbrev pub as_number : ℕ → ℕ → ℕ → ℕ → NumberShown
 as_number f n k t = record { found = f; value = n; used = k; shortest = t }
 
-unfoldable pub number_shown : Varint → NumberShown
-number_shown (number.Number n next short) = as_number 0 n next (one short)
-number_shown number.CutShort = as_number 1 0 0 0
-number_shown number.IllFormed = as_number 2 0 0 0
+unfoldable pub number_shown : Result Varint ReadFault → NumberShown
+number_shown (Ok r) = as_number 0 r.number r.next (one r.shortest)
+number_shown (Err CutShort) = as_number 1 0 0 0
+number_shown (Err IllFormed) = as_number 2 0 0 0
 
-abbrev pub count_outcome : CountAnswer → Outcome ℕ
-count_outcome (count.Refused n) = refused n
-count_outcome (count.Count n) = found n
-
-abbrev pub column_outcome : ColumnAnswer → Outcome Column
-column_outcome (column.Refused n) = refused n
-column_outcome (column.Column c) = found c
-
-abbrev pub field_outcome : FieldAnswer → Outcome Field
-field_outcome (asked.Refused n) = refused n
-field_outcome (asked.Field f) = found f
-
--- a field as plain numbers: kind 0 null, 1 yes or no (whole is 1 or 0), 2 whole number, 3 float and 4 double (their stored bits),
--- 5 time (whole and nanos), 6 place (start and length); what a kind does not use is 0
+-- a field as plain numbers: kind 0 null, 1 yes or no (whole is 1 or 0), 2 whole number, 3 float and 4 double (their
+-- stored bits), 5 time (whole and nanos), 6 place (start and length); what a kind does not use is 0
 abbrev pub as_plain : ℕ → ℤ → ℕ → Shown
 as_plain k z b = record { kind = k; whole = z; bits = b; nanos = 0; start = 0; length = 0 }
 
@@ -72,8 +54,9 @@ part_of (found (field.NanF64 n)) s = []
 part_of (found (field.Time z n)) s = []
 part_of (refused n) s = []
 
--- The part of an answer o that is handed back of the bytes s. A pointer is a memory and an offset in it: the bytes are at from, the part at to.
--- "That very part" starts where the place says. An empty part is free to lie anywhere in the same memory.
+-- The part of an answer o that is handed back of the bytes s. A pointer is a memory and an offset in it: the bytes are
+-- at from, the part at to. "That very part" starts where the place says. An empty part is free to lie anywhere in the
+-- same memory.
 pub record VeryPart (o : Outcome Field) (s part : List ℕ) (from to : ℕ × ℕ) : Type 0 where
   pub holds : part ≡ part_of o s
   pub memory : to.0 ≡ from.0

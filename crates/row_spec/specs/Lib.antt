@@ -1,3 +1,4 @@
+pub mod Read
 pub mod Varint
 pub mod Schema
 pub mod Value

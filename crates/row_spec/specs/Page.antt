@@ -1,16 +1,17 @@
 -- Pages of a table: its rows' fields as numbers in a lent list, three for each field, as many whole rows as the list
 -- takes.
-use Rattle.std.specs.Prelude.{ℕ, ◌+◌, ◌-◌, ◌*◌, ◌/◌, ◌≡◌, length, take, drop, ℤ, pos, negsuc}
+use Rattle.std.specs.Prelude.{ℕ, Result, ◌+◌, ◌-◌, ◌*◌, ◌/◌, ◌≡◌, length, take, drop, ℤ, pos, negsuc}
 use mathlib.Core.List.{List, [], ◌∷◌, ◌++◌, flat_map, flatten}
 use Rattle.std.specs.Float.{binary32, binary64}
 use Rattle.std.specs.Float.Ieee.{to_bits}
 use Rattle.common.specs.Outcome.{one, Outcome, refused, found, then, after}
+use Rattle.common.specs.Refusal.{outcome}
 use Rattle.row_spec.specs.Schema.{schema}
 use Rattle.row_spec.specs.Block.{block}
 use Rattle.row_spec.specs.declared.Field.{Field}
 use Rattle.row_spec.specs.declared.Field.TheVariants as field
-use Rattle.row_spec.specs.declared.PageAnswer.{PageAnswer}
-use Rattle.row_spec.specs.declared.PageAnswer.TheVariants as answer
+use Rattle.common.specs.declared.Refusal.{Refusal}
+use Rattle.row_spec.specs.declared.PageCounts.{PageCounts}
 
 -- a whole number of 64 bits as its two's complement
 unfoldable pub unsigned : ℤ → ℕ
@@ -61,13 +62,13 @@ unfoldable pub written : List Field → List ℕ → List ℕ
 written fs before = numbers_of fs ++ drop (length (numbers_of fs)) before
 
 -- what a page is answered
-abbrev pub page_told : Outcome Page → PageAnswer
-page_told (refused n) = answer.Refused n
-page_told (found x) = answer.Page x.given x.rows
+abbrev pub page_told : Outcome Page → Outcome PageCounts
+page_told (refused n) = refused n
+page_told (found x) = found (record { given = x.given; rows = x.rows })
 
 -- a page of outcome o is answered with r and turns the list before into now; a refusal leaves it
-pub record Paged (o : Outcome Page) (r : PageAnswer) (before now : List ℕ) : Type 0 where
-  pub says : r ≡ page_told o
+pub record Paged (o : Outcome Page) (r : Result PageCounts Refusal) (before now : List ℕ) : Type 0 where
+  pub says : outcome r ≡ page_told o
   pub holds : now ≡ after o (λ x. written x.fields before) before
 
 -- ---- pages one after the other, each from where the one before ended

@@ -1,17 +1,31 @@
-// The types of schemas, fields and values that row blocks and buckets share. Inner: types and definitions (specs/), no entry point.
+// The types of schemas, fields and values that row blocks and buckets share. Inner: types and definitions (specs/), no
+// entry point.
 #![tactic(auto)]
 
-// A number in groups of seven bits: the number, the place of the next byte and whether the form is the shortest; its bytes run out; or
-// it breaks a rule.
-#[derive(Clone, Copy)]
-pub enum Varint {
-    Number(u32, usize, bool),
+// Why a number or a value is not read: its bytes run out, or it breaks a rule.
+#[derive(Clone, Copy, Debug, PartialEq, Eq)]
+pub enum ReadFault {
     CutShort,
     IllFormed,
 }
 
-// A number that was read, as plain numbers: found 0 a number, 1 cut short, 2 ill-formed; the number, the bytes used, and 1 for the
-// shortest form. What a case does not use is 0.
+// A number that was read in groups of seven bits, the place of the next byte, and whether the form is the shortest.
+#[derive(Clone, Copy)]
+pub struct Varint {
+    pub number: u32,
+    pub next: usize,
+    pub shortest: bool,
+}
+
+// What was read, and the place of the next byte.
+#[derive(Clone, Copy)]
+pub struct Read<T> {
+    pub value: T,
+    pub next: usize,
+}
+
+// A number that was read, as plain numbers: found 0 a number, 1 cut short, 2 ill-formed; the number, the bytes used,
+// and 1 for the shortest form. What a case does not use is 0. The C interface hands on these numbers.
 #[derive(Clone, Copy)]
 pub struct NumberShown {
     pub found: u8,
@@ -49,32 +63,12 @@ pub struct Column {
     pub nullable: bool,
 }
 
-// A type and the place of the next byte, or a fault.
-#[derive(Clone, Copy)]
-pub enum TypeRead {
-    Type(ColumnType, usize),
-    Fault,
-}
-
-// A column and the place of the next byte, or a fault.
-#[derive(Clone, Copy)]
-pub enum ColumnRead {
-    Column(Column, usize),
-    Fault,
-}
-
-// The first count columns are the schema's; the others are blank.
+// The first count columns are the schema's; the others are blank. That count is at most 64 is asked where it is needed:
+// as a ghost field it would ask for a proof in every definition that makes a schema.
 #[derive(Clone, Copy)]
 pub struct Schema {
     pub columns: [Column; 64],
     pub count: usize,
-}
-
-// A schema, or a refusal: refused is 0 or its number.
-#[derive(Drop)]
-pub struct SchemaRead {
-    pub refused: u32,
-    pub schema: Schema,
 }
 
 // A field's answer. A NaN cannot pass through f32 and f64: its stored bits are handed over as they are.
@@ -91,8 +85,9 @@ pub enum Field {
     Place { start: usize, len: usize },
 }
 
-// A field as plain numbers: kind 0 null, 1 yes or no (in whole), 2 whole number, 3 float and 4 double (their stored bits), 5 time
-// (whole and nanos), 6 place (start and length). What a kind does not use is 0.
+// A field as plain numbers: kind 0 null, 1 yes or no (in whole), 2 whole number, 3 float and 4 double (their stored
+// bits), 5 time (whole and nanos), 6 place (start and length). What a kind does not use is 0. The C interface hands on
+// these numbers.
 #[derive(Clone, Copy)]
 pub struct Shown {
     pub kind: u8,
@@ -103,7 +98,8 @@ pub struct Shown {
     pub length: usize,
 }
 
-// A type as plain numbers: its id, its length or precision, its scale; 0 where it has none.
+// A type as plain numbers: its id, its length or precision, its scale; 0 where it has none. The C interface hands on
+// these numbers.
 #[derive(Clone, Copy)]
 pub struct TypeShown {
     pub id: u8,
@@ -111,8 +107,8 @@ pub struct TypeShown {
     pub scale: u32,
 }
 
-// How a value is stored: whole numbers of 1, 2, 4 and 8 bytes; bytes after their length, at least so many; an 8-byte time with no
-// nanoseconds, with a varint of them, or with 4 bytes of them.
+// How a value is stored: whole numbers of 1, 2, 4 and 8 bytes; bytes after their length, at least so many; an 8-byte
+// time with no nanoseconds, with a varint of them, or with 4 bytes of them.
 #[derive(Clone, Copy)]
 pub enum Storage {
     Boolean,
@@ -128,38 +124,9 @@ pub enum Storage {
     TimeFixed,
 }
 
-// A stored value: its answer and the place of the next byte; its bytes run out; or it is bad.
+// Of a page of a table: how many rows it gives, and how many there are.
 #[derive(Clone, Copy)]
-pub enum Value {
-    Read(Field, usize),
-    CutShort,
-    Bad,
-}
-
-// What a question for a number is answered: a refusal, or the number.
-#[derive(Clone, Copy)]
-pub enum CountAnswer {
-    Refused(u32),
-    Count(u32),
-}
-
-// What a question for a column is answered: a refusal, or the column.
-#[derive(Clone, Copy)]
-pub enum ColumnAnswer {
-    Refused(u32),
-    Column(Column),
-}
-
-// What a question for a field is answered: a refusal, or the field.
-#[derive(Clone, Copy)]
-pub enum FieldAnswer {
-    Refused(u32),
-    Field(Field),
-}
-
-// What a page of a table is answered: a refusal, or how many rows it gives and how many there are.
-#[derive(Clone, Copy)]
-pub enum PageAnswer {
-    Refused(u32),
-    Page { given: u32, rows: u32 },
+pub struct PageCounts {
+    pub given: u32,
+    pub rows: u32,
 }

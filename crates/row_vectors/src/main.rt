@@ -1,9 +1,9 @@
-// Numbers, schemas and row blocks of 01 and of every rule: a line of standard input for each case, in hexadecimal digits, `-` for no
-// byte. Each line of the output is a case's name and its answer, compared with the file stdout, which was made from 01's rules as 02
-// amends them and not by this library.
+// Numbers, schemas and row blocks of 01 and of every rule: a line of standard input for each case, in hexadecimal
+// digits, `-` for no byte. Each line of the output is a case's name and its answer, compared with the file stdout,
+// which was made from 01's rules as 02 amends them and not by this library.
 #![tactic(auto)]
 
-use row_spec::{ColumnAnswer, CountAnswer, Varint};
+use row_spec::ReadFault;
 use std::io;
 use std::io::Write;
 
@@ -48,52 +48,46 @@ fn page<W: Write>(
 // The number of rows.
 fn count<W: Write>(to: &mut W, schema: &[u8], block: &[u8]) -> io::Result<()> {
     match rows::check(schema, block) {
-        CountAnswer::Refused(n) => vector_fields::print_refused(to, n)?,
-        CountAnswer::Count(n) => vector_text::print_after(to, b": rows ", n as u64)?,
+        Err(refusal) => vector_fields::print_refused(to, refusal)?,
+        Ok(rows) => write!(to, ": rows {rows}")?,
     }
-    vector_text::print(to, b"\n")
+    writeln!(to)
 }
 
 // Whether a column of a schema is there.
 fn column<W: Write>(to: &mut W, bytes: &[u8], i: u32) -> io::Result<()> {
     match schema::column(bytes, i) {
-        ColumnAnswer::Refused(n) => vector_fields::print_refused(to, n)?,
-        ColumnAnswer::Column(c) => vector_text::print_after(to, b": nullable ", c.nullable as u64)?,
+        Err(refusal) => vector_fields::print_refused(to, refusal)?,
+        Ok(c) => write!(to, ": nullable {}", u8::from(c.nullable))?,
     }
-    vector_text::print(to, b"\n")
+    writeln!(to)
 }
 
-// A number's value, the bytes used, and whether the form is the shortest.
-fn show_number<W: Write>(to: &mut W, value: u32, used: usize, shortest: bool) -> io::Result<()> {
-    vector_text::print_after(to, b": value ", value as u64)?;
-    vector_text::print_after(to, b", bytes ", used as u64)?;
-    if shortest {
-        return vector_text::print(to, b", shortest\n");
-    }
-    vector_text::print(to, b", padded\n")
-}
-
-// The number at the front of the bytes.
+// The number at the front of the bytes: its value, the bytes used, and whether the form is the shortest.
 fn number<W: Write>(to: &mut W, bytes: &[u8]) -> io::Result<()> {
     match number_read::read(bytes) {
-        Varint::Number(value, used, shortest) => show_number(to, value, used, shortest),
-        Varint::CutShort => vector_text::print(to, b": cut short\n"),
-        Varint::IllFormed => vector_text::print(to, b": ill-formed\n"),
+        Ok(v) => {
+            let form = if v.shortest { "shortest" } else { "padded" };
+            writeln!(to, ": value {}, bytes {}, {form}", v.number, v.next)
+        }
+        Err(ReadFault::CutShort) => writeln!(to, ": cut short"),
+        Err(ReadFault::IllFormed) => writeln!(to, ": ill-formed"),
     }
 }
 
-// The question: `number N`, `schema S, column C`, `schema S, block B`, or that and `row R, column C, whole W` or `place P, room R`.
+// The question: `number N`, `schema S, column C`, `schema S, block B`, or that and `row R, column C, whole W` or `place
+// P, room R`.
 fn question<W: Write>(to: &mut W, words: &[u8], first: &[u8], second: &[u8]) -> io::Result<()> {
-    if vector_text::starts(vector_text::word(words, 0), b'n') {
+    if vector_text::word(words, 0).first() == Some(&b'n') {
         return number(to, first);
     }
-    if vector_text::starts(vector_text::word(words, 2), b'c') {
+    if vector_text::word(words, 2).first() == Some(&b'c') {
         return column(to, first, vector_text::small(vector_text::word(words, 3)));
     }
-    if vector_text::word(words, 5).len() == 0 {
+    if vector_text::word(words, 5).is_empty() {
         return count(to, first, second);
     }
-    if vector_text::starts(vector_text::word(words, 4), b'p') {
+    if vector_text::word(words, 4).first() == Some(&b'p') {
         return page(
             to,
             first,
@@ -112,13 +106,10 @@ fn question<W: Write>(to: &mut W, words: &[u8], first: &[u8], second: &[u8]) -> 
     )
 }
 
-// A line that starts with # is printed; any other is a name, a colon and a question.
+// A name, a colon and a question.
 fn show_line<W: Write>(to: &mut W, line: &[u8]) -> io::Result<()> {
-    if vector_text::comment(to, line)? {
-        return Ok(());
-    }
     let words = vector_text::after(line, b':');
-    vector_text::print(to, vector_text::before(line, b':'))?;
+    to.write_all(vector_text::before(line, b':'))?;
     let mut first = [0u8; 256];
     let n = vector_text::decode(vector_text::word(words, 1), &mut first);
     let mut second = [0u8; 256];
@@ -126,17 +117,6 @@ fn show_line<W: Write>(to: &mut W, line: &[u8]) -> io::Result<()> {
     question(to, words, &first[..n], &second[..m])
 }
 
-fn show_lines<W: Write>(to: &mut W, text: &[u8]) -> io::Result<()> {
-    for line in text.split(|c| *c == b'\n') {
-        show_line(to, line)?;
-    }
-    Ok(())
-}
-
 fn main(rt: HostRuntime) -> io::Result<()> {
-    let mut text = [0u8; 65536];
-    let n = vector_text::read_full(&mut rt.reader(), &mut text)?;
-    let mut to = io::writer(&rt);
-    show_lines(&mut to, &text[..n])?;
-    to.flush()
+    vector_text::show_lines(&mut rt.reader(), &mut io::writer(&rt), show_line)
 }

@@ -14,29 +14,30 @@ use Rattle.bitmap_spec.proofs.Window.{below_or}
 use Rattle.store_spec.specs.Store.{entries, put_in, fetch_in, drop_in, done_of, emptied, Changes, Drops}
 use Rattle.store_spec.specs.Owners.{half, part, owns, own_entries, on_slot, put_on, fetch_on, drop_on, OwnLeft, OwnChanges}
 use Rattle.store_spec.specs.Owners.{OwnDrops}
-use Rattle.store_spec.specs.declared.Stored.{Stored}
-use Rattle.store_spec.specs.declared.Stored.TheVariants as storing
+use Rattle.std.specs.Prelude.{Result, Ok, Err}
+use Rattle.common.specs.declared.Refusal.{Refusal}
+use Rattle.common.specs.Refusal.{number}
 use Rattle.store_laws.proofs.Slots.{same_or}
 use Rattle.store_laws.proofs.Halves.{own-42, own_in, part-is, part-long, dir-in, half-long, own-left, own-changes}
 use Rattle.store.specs.First.{first_refusal}
 
 -- ---- the first refusal
 module _ (o k n : ℕ) where
-  pub first-40 : 63 < k → 40 ≡ first_refusal o k n
+  pub first-40 : 63 < k → refused 40 ≡ first_refusal o k n
   unfolding first_refusal on_slot need
   first-40 h = rw (le-ltb k 64 (omega arith))
 
   module _ (h : k ≤ 63) where
-    pub first-44 : (k / 32 ≡ o → ⊥) → 44 ≡ first_refusal o k n
+    pub first-44 : (k / 32 ≡ o → ⊥) → refused 44 ≡ first_refusal o k n
     unfolding first_refusal on_slot owns need
     first-44 d = rw (lt-ltb k 64 (omega arith), ne_eqb (k / 32) o d)
 
     module _ (own : k / 32 ≡ o) where
-      pub first-42 : (n ≡ 128 → ⊥) → 42 ≡ first_refusal o k n
+      pub first-42 : (n ≡ 128 → ⊥) → refused 42 ≡ first_refusal o k n
       unfolding first_refusal on_slot owns need
       first-42 d = rw (lt-ltb k 64 (omega arith), eq-eqb (k / 32) o own, ne_eqb n 128 d)
 
-      pub first-none : n ≡ 128 → 0 ≡ first_refusal o k n
+      pub first-none : n ≡ 128 → found tt ≡ first_refusal o k n
       unfolding first_refusal on_slot owns need
       first-none e = rw (lt-ltb k 64 (omega arith), eq-eqb (k / 32) o own, eq-eqb n 128 e)
 
@@ -56,11 +57,14 @@ module _ (o k : ℕ) (dir : List ℕ) where
       (same_or (length dir) 128)) (λ q. b h q) (same_or (k / 32) o))
       (below_or 63 k)
 
-  pub mine : (m : ℕ) → m ≡ first_refusal o k (length dir) → m ≡ 0 → Mine o k dir
-  mine m e z =
-      cases (λ h. absurd (omega (arith, first-40 o k (length dir) h)))
-      (λ h d. absurd (omega (arith, first-44 o k (length dir) h d)))
-      (λ h q d. absurd (omega (arith, first-42 o k (length dir) h q d))) (λ g. g)
+  not-both : (m : ℕ) (x : Outcome (Unit {0})) → refused m ≡ x → found tt ≡ x → ⊥
+  not-both m x e f = let z : ◌≡◌ {A = ℕ} 0 1 = cc in omega arith
+
+  pub mine : found tt ≡ first_refusal o k (length dir) → Mine o k dir
+  mine e =
+      cases (λ h. absurd (not-both 40 _ (first-40 o k (length dir) h) e))
+      (λ h d. absurd (not-both 44 _ (first-44 o k (length dir) h d) e))
+      (λ h q d. absurd (not-both 42 _ (first-42 o k (length dir) h q d) e)) (λ g. g)
 
   module _ {A : Type 0} (buf : List ℕ) (f : List (List ℕ) → Outcome A) where
     as-40 : 63 < k → on_slot o k (then (own_entries o dir buf) f) ≡ refused 40
@@ -76,13 +80,16 @@ module _ (o k : ℕ) (dir : List ℕ) where
     unfolding on_slot owns need
     as_own h q = rw (lt-ltb k 64 (omega arith), eq-eqb (k / 32) o q)
 
-    pub first-refused : (m : ℕ) → m ≡ first_refusal o k (length dir) → (m ≡ 0 → ⊥)
+    pub first-refused : (m : ℕ) → refused m ≡ first_refusal o k (length dir)
         → on_slot o k (then (own_entries o dir buf) f) ≡ refused m
-    first-refused m e some =
-        cases (λ h. as-40 h ∙ ap refused (first-40 o k (length dir) h ∙ sym e))
-        (λ h d. as-44 h d ∙ ap refused (first-44 o k (length dir) h d ∙ sym e))
-        (λ h q d. as_own h q ∙ rw (own-42 o dir buf d) (ap refused (first-42 o k (length dir) h q d ∙ sym e)))
-        (λ g. absurd (some (e ∙ sym (first-none o k (length dir) g.low g.own g.many))))
+    first-refused m e =
+        cases (λ h. let z : ◌≡◌ {A = Outcome (Unit {0})} (refused 40) (refused m) = first-40 o k (length dir) h ∙ sym e in
+        let y : 40 ≡ m = cc in as-40 h ∙ ap refused y)
+        (λ h d. let z : ◌≡◌ {A = Outcome (Unit {0})} (refused 44) (refused m) = first-44 o k (length dir) h d ∙ sym e in
+        let y : 44 ≡ m = cc in as-44 h d ∙ ap refused y)
+        (λ h q d. let z : ◌≡◌ {A = Outcome (Unit {0})} (refused 42) (refused m) = first-42 o k (length dir) h q d ∙ sym e in
+        let y : 42 ≡ m = cc in as_own h q ∙ rw (own-42 o dir buf d) (ap refused y))
+        (λ g. absurd (not-both m _ e (first-none o k (length dir) g.low g.own g.many)))
 
     call-in : Mine o k dir → (D B : List ℕ) → D ≡ part o 64 dir → B ≡ part o (half buf) buf
         → on_slot o k (then (own_entries o dir buf) f) ≡ then (entries 32 D B) f
@@ -92,14 +99,14 @@ pub small : (o k : ℕ) (dir : List ℕ) → Mine o k dir → o ≤ 1
 small o k dir g = omega (arith, g.low, g.own)
 
 -- ---- put
-pub put_refused : (o k : ℕ) (bitmap dir buf : List ℕ) (m : ℕ) → m ≡ first_refusal o k (length dir) → (m ≡ 0 → ⊥)
-    → OwnChanges o (put_on o k bitmap dir buf) dir buf dir buf (storing.Refused m)
+pub put_refused : (o k : ℕ) (bitmap dir buf : List ℕ) (m : Refusal) → refused (number m) ≡ first_refusal o k (length dir)
+    → OwnChanges o (put_on o k bitmap dir buf) dir buf dir buf (Err m)
 unfolding put_on done_of OwnLeft
-put_refused o k bitmap dir buf m e d =
-    let x = first-refused o k dir buf (put_in (half buf) (k % 32) bitmap) m e d in
+put_refused o k bitmap dir buf m e =
+    let x = first-refused o k dir buf (put_in (half buf) (k % 32) bitmap) (number m) e in
     record { says = rw x; left = rw x (refl, refl) }
 
-pub put-done : (o k : ℕ) (bitmap dir buf D B D' B' dir' buf' : List ℕ) (r : Stored) → Mine o k dir
+pub put-done : (o k : ℕ) (bitmap dir buf D B D' B' dir' buf' : List ℕ) (r : Result (Unit {0}) Refusal) → Mine o k dir
     → D ≡ part o 64 dir → B ≡ part o (half buf) buf → length D' ≡ length D → length B' ≡ length B
     → dir' ≡ put_mid (o * 64) (o * 64 + 64 - o * 64) dir D'
     → buf' ≡ put_mid (o * half buf) (o * half buf + half buf - o * half buf) buf B'
@@ -113,10 +120,10 @@ put-done o k bitmap dir buf D B D' B' dir' buf' r g eD eB lD lB ed eb c =
     (then (entries 32 D B) (put_in (length B) (k % 32) bitmap)) r (rw room is) (rw (← eD, ← eB) c)
 
 -- ---- fetch
-pub fetch-refused : (o k out : ℕ) (dir buf : List ℕ) (m : ℕ) → m ≡ first_refusal o k (length dir) → (m ≡ 0 → ⊥)
+pub fetch-refused : (o k out : ℕ) (dir buf : List ℕ) (m : ℕ) → refused m ≡ first_refusal o k (length dir)
     → fetch_on o k out dir buf ≡ refused m
 unfolding fetch_on
-fetch-refused o k out dir buf m e d = first-refused o k dir buf (fetch_in out (k % 32)) m e d
+fetch-refused o k out dir buf m e = first-refused o k dir buf (fetch_in out (k % 32)) m e
 
 pub fetch-is : (o k out : ℕ) (dir buf D B : List ℕ) → Mine o k dir → D ≡ part o 64 dir → B ≡ part o (half buf) buf
     → fetch_on o k out dir buf ≡ then (entries 32 D B) (fetch_in out (k % 32))
@@ -124,11 +131,11 @@ unfolding fetch_on
 fetch-is o k out dir buf D B g eD eB = call-in o k dir buf (fetch_in out (k % 32)) g D B eD eB
 
 -- ---- drop
-pub drop-refused : (o k : ℕ) (dir buf : List ℕ) (m : ℕ) → m ≡ first_refusal o k (length dir) → (m ≡ 0 → ⊥)
-    → OwnDrops o (drop_on o k dir buf) k dir buf dir (storing.Refused m)
+pub drop-refused : (o k : ℕ) (dir buf : List ℕ) (m : Refusal) → refused (number m) ≡ first_refusal o k (length dir)
+    → OwnDrops o (drop_on o k dir buf) k dir buf dir (Err m)
 unfolding drop_on done_of emptied OwnLeft
-drop-refused o k dir buf m e d =
-    let x = first-refused o k dir buf (drop_in (k % 32)) m e d in
+drop-refused o k dir buf m e =
+    let x = first-refused o k dir buf (drop_in (k % 32)) (number m) e in
     record { says = rw x; numbers = rw x; left = rw x (refl, refl) }
 
 module _ (o k : ℕ) (dir D D' dir' : List ℕ) (g : Mine o k dir) (eD : D ≡ part o 64 dir)
@@ -148,7 +155,7 @@ module _ (o k : ℕ) (dir D D' dir' : List ℕ) (g : Mine o k dir) (eD : D ≡ p
       (omega (arith, ap length (part-is o 64 dir), long))
       ∙ ap (λ (i : ℕ). set dir i 0) at
 
-pub drop-done : (o k : ℕ) (dir buf D B D' dir' : List ℕ) (r : Stored) → Mine o k dir → D ≡ part o 64 dir
+pub drop-done : (o k : ℕ) (dir buf D B D' dir' : List ℕ) (r : Result (Unit {0}) Refusal) → Mine o k dir → D ≡ part o 64 dir
     → B ≡ part o (half buf) buf → length D' ≡ length D → dir' ≡ put_mid (o * 64) (o * 64 + 64 - o * 64) dir D'
     → Drops (then (entries 32 D B) (drop_in (k % 32))) 32 (k % 32) D B D' r
     → OwnDrops o (drop_on o k dir buf) k dir buf dir' r

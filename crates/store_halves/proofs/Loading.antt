@@ -16,7 +16,9 @@ use Rattle.common.specs.Outcome.{Outcome, refused, found, need}
 use Rattle.store_spec.specs.Store.{entry_at, total, done_of}
 use Rattle.store_spec.specs.Owners.{half, part, own_entries, all_entries, Beside, OwnLeft, AllLeft, AllChanges}
 use Rattle.store_spec.specs.Saved.{Scan, scan, fitting, load_on}
-use Rattle.store_spec.specs.declared.Stored.TheVariants as storing
+use Rattle.std.specs.Prelude.{Result, Ok, Err, Option, Some, None}
+use Rattle.common.specs.declared.Refusal.{Refusal}
+use Rattle.common.specs.Refusal.{number}
 use Rattle.store_laws.proofs.Slots.{Lies}
 use Rattle.store_laws.proofs.Halves.{half-same, own-left, other-left}
 use Rattle.store_laws.proofs.Returns.{own-all}
@@ -24,8 +26,6 @@ use Rattle.store_laws.proofs.Scans.{all-many, Known, scan-or, first-bad, second-
 use Rattle.store_load.proofs.Steps.{given-left}
 use Rattle.store_halves.proofs.Parts.{dir-is, buf-is, dir-many}
 use Rattle.store_halves.specs.Half.{Ends}
-use Rattle.store_halves.specs.declared.Ending.{Ending}
-use Rattle.store_halves.specs.declared.Ending.TheVariants as ending
 
 -- ---- behind both halves
 odd-stays : (h k : ℕ) (b b₁ b₂ : List ℕ) → k ≡ h → Beside 0 h b b₁ → Beside 1 k b₁ b₂ → drop (2 * h) b₂ ≡ drop (2 * h) b
@@ -38,28 +38,28 @@ odd-stays h k b b₁ b₂ e p q =
 
 -- ---- one half judged
 module _ (s : List ℕ) (first h : ℕ) where
-  pub ends-bad : scan s first [] 32 ≡ refused 42 → Ends s first h ending.Bad
+  pub ends-bad : scan s first [] 32 ≡ refused 42 → Ends s first h None
   unfolding Ends
   ends-bad e = inl e
 
   module _ (x : Scan) (ex : scan s first [] 32 ≡ found x) (t : ℕ) (et : t ≡ total x.held) where
-    pub ends-over : h < t → Ends s first h ending.Bad
+    pub ends-over : h < t → Ends s first h None
     unfolding Ends
     ends-over l = inr (x, ex, omega arith)
 
-    pub ends_at : (next : ℕ) → next ≡ x.next → t ≤ h → Ends s first h (ending.At next)
+    pub ends_at : (next : ℕ) → next ≡ x.next → t ≤ h → Ends s first h (Some next)
     unfolding Ends
     ends_at next en l = (x, ex, en, omega arith)
 
-  ended-bad : (r : Ending) → Ends s first h r → r ≡ ending.Bad
+  ended-bad : Ends s first h None
       → (scan s first [] 32 ≡ refused 42) ⊎ ((x : Scan) × (scan s first [] 32 ≡ found x) × (h < total x.held))
   unfolding Ends
-  ended-bad r g e = rw e at g
+  ended-bad g = g
 
-  pub ended : (r : Ending) → Ends s first h r → (next : ℕ) → r ≡ ending.At next
+  pub ended : (next : ℕ) → Ends s first h (Some next)
       → (x : Scan) × (scan s first [] 32 ≡ found x) × (next ≡ x.next) × (total x.held ≤ h)
   unfolding Ends
-  ended r g next e = rw e at g
+  ended next g = g
 
 -- ---- one half given its entries
 pub gave : (o : ℕ) → o ≤ 1 → (dir buf dir' buf' D B : List ℕ) → length dir ≡ 128
@@ -154,15 +154,15 @@ module _ (dir : List ℕ) (room : ℕ) (s : List ℕ) where
             → load_on dir room s ≡ found (x.held ++ y.held)
         both-fit e h g = a-scan _ (both-good s x ex y ey) ∙ fits room s _ e (rw first-32 h) (rw last-32 g)
 
-    pub load-first : (r : Ending) → Ends s 0 room r → r ≡ ending.Bad → load_on dir room s ≡ refused 42
-    load-first r g e =
-        ⊎_elim (λ q. no-scan (first-bad s q)) (λ x. full-first x.0 x.1 x.2) (ended-bad s 0 room r g e)
+    pub load-first : Ends s 0 room None → load_on dir room s ≡ refused 42
+    load-first g =
+        ⊎_elim (λ q. no-scan (first-bad s q)) (λ x. full-first x.0 x.1 x.2) (ended-bad s 0 room g)
 
     module _ (p : ℕ) (x : (x : Scan) × (scan s 0 [] 32 ≡ found x) × (p ≡ x.next) × (total x.held ≤ room)) where
-      pub load-second : (r : Ending) → Ends s p room r → r ≡ ending.Bad → load_on dir room s ≡ refused 42
-      load-second r g e =
+      pub load-second : Ends s p room None → load_on dir room s ≡ refused 42
+      load-second g =
           ⊎_elim (λ q. no-scan (second-bad s x.0 x.1 (rw x.2 at q)))
-          (λ y. full-second x.0 x.1 y.0 (rw x.2 at y.1) y.2) (ended-bad s p room r g e)
+          (λ y. full-second x.0 x.1 y.0 (rw x.2 at y.1) y.2) (ended-bad s p room g)
 
       module _ (q : ℕ) (y : (y : Scan) × (scan s p [] 32 ≡ found y) × (q ≡ y.next) × (total y.held ≤ room)) where
         pub load-behind : (q ≡ length s → ⊥) → load_on dir room s ≡ refused 42
@@ -173,7 +173,7 @@ module _ (dir : List ℕ) (room : ℕ) (s : List ℕ) where
 
         pub load-done : (buf dir₁ buf₁ dir' buf' : List ℕ) → q ≡ length s
             → OwnLeft 0 (found x.0.held) dir buf dir₁ buf₁ → OwnLeft 1 (found y.0.held) dir₁ buf₁ dir' buf'
-            → AllChanges (load_on dir room s) dir buf dir' buf' storing.Done
+            → AllChanges (load_on dir room s) dir buf dir' buf' (Ok tt)
         unfolding done_of AllLeft OwnLeft
         load-done buf dir₁ buf₁ dir' buf' e u v = record {
           says = rw (load_is e);
@@ -190,7 +190,7 @@ module _ (dir : List ℕ) (room : ℕ) (s : List ℕ) where
             odd = odd-stays (half buf) (half buf₁) buf buf₁ buf' (half-same buf buf₁ u.1) u.4 v.4
 
 -- ---- refused
-pub all-refused : (x : Outcome (List (List ℕ))) (dir buf : List ℕ) (m : ℕ) → x ≡ refused m
-    → AllChanges x dir buf dir buf (storing.Refused m)
+pub all-refused : (x : Outcome (List (List ℕ))) (dir buf : List ℕ) (m : Refusal) → x ≡ refused (number m)
+    → AllChanges x dir buf dir buf (Err m)
 unfolding done_of AllLeft
 all-refused x dir buf m e = record { says = rw e; left = rw e (refl, refl) }

@@ -13,15 +13,6 @@ ghost use Rattle.store_laws.proofs.Slots.{Lies};
 ghost use Rattle.store_save.specs.Size.{entry_size};
 ghost use Rattle.store_halves.specs.Half.{held, Ends};
 
-use store_load::Scanned;
-
-// The saved entries of a half: bad, or where they end.
-#[derive(Clone, Copy)]
-pub enum Ending {
-    Bad,
-    At(usize),
-}
-
 // The owner's numbers.
 pub fn numbers_of<'a>(dir: &'a [u32], o: usize) -> &'a [u32]
     requires { (o ≤ 1) × (length dir.now ≡ 128) }
@@ -65,19 +56,15 @@ pub fn put_entries(dir: &[u32], buf: &[u8], o: usize, out: &mut [u8], at: usize)
     store_save::put_entries(numbers_of(dir, o), bytes_of(buf, o), 32, out, at)
 }
 
-// Judges 32 entries of the saved bytes from `first` on, which must fit a half of h bytes together.
-pub fn scan_entries(saved: &[u8], first: usize, h: usize) -> Ending
+// Judges 32 entries of the saved bytes from `first` on, which must fit a half of h bytes together, and says where they end.
+pub fn scan_entries(saved: &[u8], first: usize, h: usize) -> Option<usize>
     ensures { Ends saved.now first h result }
 {
-    match store_load::scan_entries(saved, first, 32) {
-        Scanned::Bad => Ending::Bad,
-        Scanned::Good(next, t) => {
-            if h < t {
-                return Ending::Bad;
-            }
-            Ending::At(next)
-        }
+    let entries = store_load::scan_entries(saved, first, 32)?;
+    if h < entries.total {
+        return None;
     }
+    Some(entries.end)
 }
 
 // Gives each of the owner's slots its entry of the judged bytes from `first` on.

@@ -14,7 +14,9 @@ use Rattle.bitmap_spec.proofs.Window.{below_or}
 use Rattle.bitmap_laws.proofs.Output.{length-written}
 use Rattle.store_spec.specs.Store.{is_form, start_at, length_at, end_at, entry_at, sound, entries_of, entries, some}
 use Rattle.store_spec.specs.Store.{fetch_in, drop_in, done_of, Left, Changes, emptied, Drops}
-use Rattle.store_spec.specs.declared.Stored.TheVariants as storing
+use Rattle.std.specs.Prelude.{Ok, Err}
+use Rattle.common.specs.declared.Refusal.{Refusal}
+use Rattle.common.specs.Refusal.{number}
 use Rattle.bitmap_laws.proofs.Parts.{part-before, part_in}
 use Rattle.store_laws.proofs.Slots.{same_or, Lies, entries-bad, entries-is, entry-is, entry-long}
 use Rattle.store_laws.proofs.Slots.{some-true, some-false, entries-set}
@@ -129,7 +131,7 @@ module _ (n : ℕ) (dir buf : List ℕ) (k : ℕ) (s : Lies n dir buf) (len : le
   drop-some l = rw (entries-is n dir buf len s) (rw (entry-some l))
 
   pub drop-done : 0 < length_at dir k
-      → Drops (then (entries n dir buf) (drop_in k)) n k dir buf (set dir (2 * k + 1) 0) storing.Done
+      → Drops (then (entries n dir buf) (drop_in k)) n k dir buf (set dir (2 * k + 1) 0) (Ok tt)
   unfolding done_of Left emptied
   drop-done l = record {
     says = rw (drop-some l);
@@ -142,13 +144,13 @@ pub bad-entries : {A : Type 0} (n : ℕ) (dir buf : List ℕ) (f : List (List �
     → sound n dir buf ≡ false → then (entries n dir buf) f ≡ refused 42
 bad-entries n dir buf f e q = rw (entries-bad n dir buf e q)
 
-pub drop-refused : (o : Outcome (List (List ℕ))) (n k : ℕ) (dir buf : List ℕ) (m : ℕ) → o ≡ refused m
-    → Drops o n k dir buf dir (storing.Refused m)
+pub drop-refused : (o : Outcome (List (List ℕ))) (n k : ℕ) (dir buf : List ℕ) (m : Refusal) → o ≡ refused (number m)
+    → Drops o n k dir buf dir (Err m)
 unfolding done_of Left emptied
 drop-refused o n k dir buf m e = record { says = rw e; numbers = rw e; left = rw e (refl, refl) }
 
-pub change-refused : (o : Outcome (List (List ℕ))) (n : ℕ) (dir buf : List ℕ) (m : ℕ) → o ≡ refused m
-    → Changes o n dir buf dir buf (storing.Refused m)
+pub change-refused : (o : Outcome (List (List ℕ))) (n : ℕ) (dir buf : List ℕ) (m : Refusal) → o ≡ refused (number m)
+    → Changes o n dir buf dir buf (Err m)
 unfolding done_of Left
 change-refused o n dir buf m e = record { says = rw e; left = rw e (refl, refl) }
 

@@ -15,7 +15,8 @@ use Rattle.common.specs.Outcome.{Outcome, refused, found, need}
 use Rattle.bitmap_spec.proofs.Window.{below_or}
 use Rattle.store_spec.specs.Store.{entries, Left, Changes}
 use Rattle.store_spec.specs.Owners.{half, part, own_entries, Beside, OwnLeft, OwnChanges}
-use Rattle.store_spec.specs.declared.Stored.{Stored}
+use Rattle.std.specs.Prelude.{Result}
+use Rattle.common.specs.declared.Refusal.{Refusal}
 
 -- ---- what an owner's slots mean
 pub own-42 : (o : ℕ) (dir buf : List ℕ) → (length dir ≡ 128 → ⊥) → own_entries o dir buf ≡ refused 42
@@ -170,7 +171,7 @@ module _ (o : ℕ) (small : o ≤ 1) (dir buf D B dir' buf' : List ℕ) (len : l
     put-beside o (half buf) buf B buf' in_b long_b eb,
   )
 
-  pub own-changes : (x y : Outcome (List (List ℕ))) (r : Stored) → x ≡ y
+  pub own-changes : (x y : Outcome (List (List ℕ))) (r : Result (Unit {0}) Refusal) → x ≡ y
       → Changes y 32 (part o 64 dir) (part o (half buf) buf) D B r → OwnChanges o x dir buf dir' buf' r
   own-changes x y r e g = rw e (record { says = g.says; left = own-left y g.left })
 

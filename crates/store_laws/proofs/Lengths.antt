@@ -8,8 +8,8 @@ use native.Mathlib.Omega.{arith}
 use borrow.Author.Tests.{eq-eqb}
 use lib.ListN.{length, take, drop, length-append, length-drop, length-take, take-append-drop}
 use lib.Seq.{drop-drop, drop-append_seam, take-append_seam}
-use Rattle.row_spec.specs.Varint.{varint_at, padded, groups_of, shortest}
-use Rattle.row_spec.specs.declared.Varint.TheVariants.{Number}
+use Rattle.row_spec.specs.Varint.{varint, varint_at, padded, groups_of, shortest}
+use Rattle.std.specs.Prelude.{Ok}
 use Rattle.row_laws.specs.Forms.{Bytes, Form}
 use Rattle.row_laws.proofs.Forms.{groups-least, form-read, read-form, shortest-form}
 
@@ -39,7 +39,7 @@ shortest-some n h = omega (arith, shortest-long n, (groups-least n (five-hold n 
 
 -- ---- what is written is read back
 pub length_back : (s : List ℕ) (at n : ℕ) (rest : List ℕ) → n ≤ 4294967295 → drop at s ≡ shortest n ++ rest
-    → varint_at s at ≡ Number n (at + length (shortest n)) true
+    → varint_at s at ≡ Ok (varint n (at + length (shortest n)) true)
 unfolding shortest
 length_back s at n rest h e =
     let least = groups-least n (five-hold n h) in
@@ -55,10 +55,10 @@ length_back s at n rest h e =
       bytes = bytes;
       mark = sym (eq-eqb (groups_of n) (groups_of n) refl);
     } in
-    form-read s at (groups_of n) n true f ∙ ap (λ (k : ℕ). Number n (at + k) true) (sym long)
+    form-read s at (groups_of n) n true f ∙ ap (λ (k : ℕ). Ok (varint n (at + k) true)) (sym long)
 
 -- ---- what is read and shortest was written so
-pub length-on : (s : List ℕ) → Bytes s → (at n next : ℕ) → varint_at s at ≡ Number n next true
+pub length-on : (s : List ℕ) → Bytes s → (at n next : ℕ) → varint_at s at ≡ Ok (varint n next true)
     → drop at s ≡ shortest n ++ drop next s
 length-on s byte at n next e =
     let place = (read-form s byte at n true next e).0 in
@@ -68,7 +68,7 @@ length-on s byte at n next e =
     (drop-drop (next - at) at s ∙ ap (λ (k : ℕ). drop k s) (sym place))
 
 -- a number that is read ends within the bytes
-pub length-within : (s : List ℕ) → Bytes s → (at n next : ℕ) (short : Bool) → varint_at s at ≡ Number n next short
+pub length-within : (s : List ℕ) → Bytes s → (at n next : ℕ) (short : Bool) → varint_at s at ≡ Ok (varint n next short)
     → next ≤ length s
 length-within s byte at n next short e =
     let r = read-form s byte at n short next e in

@@ -1,7 +1,7 @@
 -- Load finds exactly what was saved.
 -- Assumes nothing.
 use mathlib.Core.Path.{◌≡◌, refl, sym, ap, ◌∙◌}
-use mathlib.Core.Bool.{true, false}
+use mathlib.Core.Bool.{Bool, true, false}
 use mathlib.Core.List.{List, [], ◌∷◌, ◌++◌, append_assoc, append-nil}
 use Prim.Native.Nat.{ℕ, zero, suc, ◌+◌, ◌≤◌, ◌<◌}
 use native.Mathlib.Omega.{arith}
@@ -9,11 +9,12 @@ use borrow.Author.Tests.{eq-eqb, le-leb, leb-true, eqb-true}
 use lib.ListN.{length, get_or, take, drop, length-append, take-append-drop}
 use lib.Dec.{leb, eqb}
 use lib.Seq.{take-append_seam, drop-drop, drop-length}
-use Rattle.common.specs.Outcome.{refused, found, need}
+use Rattle.common.specs.Outcome.{refused, found, need, pick}
 use Rattle.bitmap_laws.proofs.Accept.{then_found}
-use Rattle.row_spec.specs.Varint.{varint_at, shortest}
+use Rattle.row_spec.specs.Varint.{varint, varint_at, shortest}
 use Rattle.row_spec.specs.declared.Varint.{Varint}
-use Rattle.row_spec.specs.declared.Varint.TheVariants.{Number, CutShort, IllFormed}
+use Rattle.std.specs.Prelude.{Result, Ok, Err}
+use Rattle.row_spec.specs.declared.ReadFault.{ReadFault}
 use Rattle.store_spec.specs.Store.{total}
 use Rattle.common.proofs.Outcomes.{same-found}
 use Rattle.bitmap_spec.proofs.Reading.{need-found}
@@ -49,7 +50,7 @@ record Entry (s : List ℕ) (at : ℕ) (t : Taken) : Type 0 where
   pub bytes : drop at s ≡ shortest (length t.entry) ++ (t.entry ++ drop t.next s)
 
 module _ (s : List ℕ) (byte : (i : ℕ) → get_or s i 0 < 256) (at : ℕ) where
-  number : (n next : ℕ) → varint_at s at ≡ Number n next true → leb (next + n) (length s) ≡ true
+  number : (n next : ℕ) → varint_at s at ≡ Ok (varint n next true) → leb (next + n) (length s) ≡ true
       → is_entry (take n (drop next s)) ≡ true
       → Entry s at (record { entry = take n (drop next s); next = next + n })
   number n next v room form =
@@ -67,15 +68,18 @@ module _ (s : List ℕ) (byte : (i : ℕ) → get_or s i 0 < 256) (at : ℕ) whe
   unfolding entry_from
   entry-on t e = go (varint_at s at) refl e
     where
-      go : (v : Varint) → varint_at s at ≡ v → on_shortest v (refused 42) (made s) ≡ found t → Entry s at t
-      go CutShort v q = absurd (let z : ◌≡◌ {A = ℕ} 0 1 = cc in omega arith)
-      go IllFormed v q = absurd (let z : ◌≡◌ {A = ℕ} 0 1 = cc in omega arith)
-      go (Number n next false) v q = absurd (let z : ◌≡◌ {A = ℕ} 0 1 = cc in omega arith)
-      go (Number n next true) v q =
+      on : (n next : ℕ) (b : Bool) → varint_at s at ≡ Ok (varint n next b) → pick b (made s n next) (refused 42) ≡ found t
+          → Entry s at t
+      on n next false v q = absurd (let z : ◌≡◌ {A = ℕ} 0 1 = cc in omega arith)
+      on n next true v q =
           let a = need-found (leb (next + n) (length s)) 42 _ t q in
           let b = need-found (is_entry (take n (drop next s))) 42 _ t a.1 in
           let z : ◌≡◌ {A = Taken} (record { entry = take n (drop next s); next = next + n }) t = same-found b.1 in
           rw z at (number n next v a.0 b.0)
+
+      go : (v : Result Varint ReadFault) → varint_at s at ≡ v → on_shortest v (refused 42) (made s) ≡ found t → Entry s at t
+      go (Err f) v q = absurd (let z : ◌≡◌ {A = ℕ} 0 1 = cc in omega arith)
+      go (Ok r) v q = on r.number r.next r.shortest v q
 
 -- ---- all entries
 saved-cons : (e : List ℕ) (es : List (List ℕ)) (rest : List ℕ)

@@ -11,11 +11,12 @@ use native.Mathlib.Omega.{arith}
 use borrow.Author.Tests.{eq-eqb, ne_eqb}
 use lib.ListN.{length, take, drop, length-append}
 use lib.Dec.{leb, eqb}
-use Rattle.common.specs.Outcome.{either, Outcome, refused, found, then, need}
+use Rattle.common.specs.Outcome.{pick, either, Outcome, refused, found, then, need}
 use Rattle.bitmap_laws.proofs.Accept.{then_found}
 use Rattle.row_spec.specs.Varint.{varint_at}
 use Rattle.row_spec.specs.declared.Varint.{Varint}
-use Rattle.row_spec.specs.declared.Varint.TheVariants.{Number, CutShort, IllFormed}
+use Rattle.std.specs.Prelude.{Result, Ok, Err}
+use Rattle.row_spec.specs.declared.ReadFault.{ReadFault}
 use Rattle.store_spec.specs.Store.{is_form}
 use Rattle.store_spec.specs.Saved.{is_entry, on_shortest, Taken, entry_from, Scan, scan}
 
@@ -91,13 +92,16 @@ entry-or s at = go (varint_at s at)
     needed t true false = inr refl
     needed t false b = inr refl
 
-    go : (v : Varint) → Known (on_shortest v (refused 42) (made s))
-    go CutShort = inr refl
-    go IllFormed = inr refl
-    go (Number n next false) = inr refl
-    go (Number n next true) =
-        needed (record { entry = take n (drop next s); next = next + n }) (leb (next + n) (length s))
-        (is_entry (take n (drop next s)))
+    picked : (b : Bool) (x : Outcome Taken) → Known x → Known (pick b x (refused 42))
+    picked true x h = h
+    picked false x h = inr refl
+
+    go : (v : Result Varint ReadFault) → Known (on_shortest v (refused 42) (made s))
+    go (Err e) = inr refl
+    go (Ok r) =
+        picked r.shortest _
+        (needed (record { entry = take r.number (drop r.next s); next = r.next + r.number })
+        (leb (r.next + r.number) (length s)) (is_entry (take r.number (drop r.next s))))
 
 pub scan-or : (s : List ℕ) (at : ℕ) (acc : List (List ℕ)) (n : ℕ) → Known (scan s at acc n)
 scan-or s at acc zero = inl (record { held = acc; next = at }, scan-zero s at acc)

@@ -1,17 +1,18 @@
 -- No call on a store refuses with 0: each definition is a walk down nested needs, and no need's number is 0.
 -- Assumes nothing.
-use mathlib.Core.Bool.{true, false}
+use mathlib.Core.Bool.{Bool, true, false}
 use mathlib.Core.List.{List, [], ◌∷◌, ◌++◌}
 use Prim.Native.Nat.{ℕ, zero, suc}
-use Rattle.common.specs.Outcome.{Outcome, refused, then, Numbered}
+use Rattle.common.specs.Outcome.{Outcome, refused, then, pick, Numbered}
 use Rattle.common.proofs.Outcomes.{refused-numbered, found-numbered, need-numbered, then-numbered}
 use Rattle.bitmap_laws.proofs.Status.{judge-numbered, placed-numbered}
 use Rattle.row_spec.specs.Varint.{varint_at}
 use Rattle.row_spec.specs.declared.Varint.{Varint}
-use Rattle.row_spec.specs.declared.Varint.TheVariants.{Number, CutShort, IllFormed}
+use Rattle.std.specs.Prelude.{Result, Ok, Err}
+use Rattle.row_spec.specs.declared.ReadFault.{ReadFault}
 use Rattle.store_spec.specs.Store.{entries, room_for, put_in, fetch_in, drop_in}
 use Rattle.store_spec.specs.Owners.{own_entries, all_entries, on_slot, put_on, fetch_on, drop_on}
-use Rattle.store_spec.specs.Saved.{on_shortest, entry_from, scan, fitting, save_on, load_on}
+use Rattle.store_spec.specs.Saved.{Taken, on_shortest, entry_from, scan, fitting, save_on, load_on}
 use Rattle.store_laws.proofs.Scans.{made}
 
 entries-numbered : (n : ℕ) (dir buf : List ℕ) → Numbered (entries n dir buf)
@@ -58,11 +59,13 @@ entry-numbered : (s : List ℕ) (at : ℕ) → Numbered (entry_from s at)
 unfolding entry_from
 entry-numbered s at = go (varint_at s at)
   where
-    go : (v : Varint) → Numbered (on_shortest v (refused 42) (made s))
-    go CutShort = refused-numbered 41
-    go IllFormed = refused-numbered 41
-    go (Number n next false) = refused-numbered 41
-    go (Number n next true) = need-numbered _ _ _ (need-numbered _ _ _ (found-numbered _))
+    picked : (b : Bool) (x : Outcome Taken) → Numbered x → Numbered (pick b x (refused 42))
+    picked true x h = h
+    picked false x h = refused-numbered 41
+
+    go : (v : Result Varint ReadFault) → Numbered (on_shortest v (refused 42) (made s))
+    go (Err e) = refused-numbered 41
+    go (Ok r) = picked r.shortest _ (need-numbered _ _ _ (need-numbered _ _ _ (found-numbered _)))
 
 scan-numbered : (s : List ℕ) (at : ℕ) (acc : List (List ℕ)) (n : ℕ) → Numbered (scan s at acc n)
 unfolding scan

@@ -13,9 +13,10 @@ use lib.Seq.{ext_get_or, get_or-append_seam, get_or-set_same, get_or-set_other}
 use Rattle.common.specs.Outcome.{Outcome, refused, found, need}
 use Rattle.bitmap_spec.specs.Output.{written}
 use Rattle.bitmap_spec.proofs.Window.{below_or}
-use Rattle.row_spec.specs.Varint.{varint_at}
+use Rattle.std.specs.Prelude.{Option, Some, None, Ok, Err}
+use Rattle.row_spec.specs.Varint.{varint, varint_at}
+use Rattle.row_spec.specs.declared.ReadFault.{ReadFault}
 use Rattle.row_spec.specs.declared.Varint.{Varint}
-use Rattle.row_spec.specs.declared.Varint.TheVariants as groups
 use Rattle.store_spec.specs.Store.{is_form, length_at, end_at, entry_at, entries_of, total, Left}
 use Rattle.bitmap_laws.proofs.Parts.{part_length}
 use Rattle.store_laws.proofs.Slots.{same_or, Lies, form-few, entry-is, many-entries, entries-is}
@@ -25,45 +26,40 @@ use Rattle.store_spec.specs.Saved.{is_entry, Taken, entry_from, Scan, scan}
 use Rattle.bitmap_spec.proofs.Reading.{need-found}
 use Rattle.store_laws.proofs.Scans.{empty-entry, some-entry, scan_step, scan-bad, scan-took, scan-over}
 use Rattle.store_load.specs.Loading.{Given, Frames, Takes, Scans, Loading}
-use Rattle.store_load.specs.declared.Took.{Took}
-use Rattle.store_load.specs.declared.Took.TheVariants as taking
+use Rattle.store_load.specs.declared.Entry.{Entry}
 use Rattle.store_load.specs.declared.Scanned.{Scanned}
-use Rattle.store_load.specs.declared.Scanned.TheVariants as scanning
 
 -- ---- an entry by its length
-module _ (s : List ℕ) (at : ℕ) (v : Varint) (ev : v ≡ varint_at s at) where
-  pub cut-bad : v ≡ groups.CutShort → Frames s at taking.Bad
+module _ (s : List ℕ) (at : ℕ) where
+  pub unread : (f : ReadFault) → Err f ≡ varint_at s at → Frames s at None
   unfolding Frames entry_from
-  cut-bad e = rw (← ev, e)
+  unread f e = rw (← e)
 
-  pub ill-bad : v ≡ groups.IllFormed → Frames s at taking.Bad
-  unfolding Frames entry_from
-  ill-bad e = rw (← ev, e)
-
-  module _ (n next : ℕ) (short : Bool) (e : v ≡ groups.Number n next short) where
-    pub padded-bad : short ≡ false → Frames s at taking.Bad
+  module _ (r : Varint) (e : Ok r ≡ varint_at s at) where
+    pub padded-bad : r.shortest ≡ false → Frames s at None
     unfolding Frames entry_from
-    padded-bad p = rw (← ev, e, p)
+    padded-bad p = rw (← e, p)
 
-    pub long-bad : short ≡ true → length s < next + n → Frames s at taking.Bad
+    pub long-bad : r.shortest ≡ true → length s < r.next + r.number → Frames s at None
     unfolding Frames entry_from need
-    long-bad p h = rw (← ev, e, p, lt-leb _ _ h)
+    long-bad p h = rw (← e, p, lt-leb _ _ h)
 
-    pub framed : short ≡ true → next + n ≤ length s → Frames s at (taking.Entry next n)
+    pub framed : r.shortest ≡ true → r.next + r.number ≤ length s
+        → Frames s at (Some (record { start = r.next; length = r.number }))
     unfolding Frames
-    framed p h = (sym ev ∙ e ∙ ap (groups.Number n next) p, h)
+    framed p h = (sym e ∙ ap (λ (b : Bool). Ok (varint r.number r.next b)) p, h)
 
-pub frame-bad : (s : List ℕ) (at : ℕ) (r : Took) → Frames s at r → r ≡ taking.Bad → entry_from s at ≡ refused 42
+pub frame-bad : (s : List ℕ) (at : ℕ) → Frames s at None → entry_from s at ≡ refused 42
 unfolding Frames
-frame-bad s at r f e = rw e at f
+frame-bad s at f = f
 
-pub frame : (s : List ℕ) (at : ℕ) (r : Took) → Frames s at r → (a m : ℕ) → r ≡ taking.Entry a m
-    → (varint_at s at ≡ groups.Number m a true) × (a + m ≤ length s)
+pub frame : (s : List ℕ) (at : ℕ) (e : Entry) → Frames s at (Some e)
+    → (varint_at s at ≡ Ok (varint e.length e.start true)) × (e.start + e.length ≤ length s)
 unfolding Frames
-frame s at r f a m e = rw e at f
+frame s at e f = f
 
 -- ---- one entry read
-module _ (s : List ℕ) (at a m : ℕ) (v : varint_at s at ≡ groups.Number m a true) (h : a + m ≤ length s) where
+module _ (s : List ℕ) (at a m : ℕ) (v : varint_at s at ≡ Ok (varint m a true)) (h : a + m ≤ length s) where
   is : entry_from s at
       ≡ need (is_entry (take m (drop a s))) 42 (found (record { entry = take m (drop a s); next = a + m }))
   unfolding entry_from need
@@ -75,18 +71,18 @@ module _ (s : List ℕ) (at a m : ℕ) (v : varint_at s at ≡ groups.Number m a
   part : take (a + m - a) (drop a s) ≡ take m (drop a s)
   part = let p : a + m - a ≡ m = omega arith in rw p
 
-  pub form-bad : (m ≡ 0 → ⊥) → false ≡ is_form (take (a + m - a) (drop a s)) → Takes s at taking.Bad
+  pub form-bad : (m ≡ 0 → ⊥) → false ≡ is_form (take (a + m - a) (drop a s)) → Takes s at None
   unfolding Takes need
   form-bad z f = is ∙ rw (form-is z, ← part, ← f)
 
-  pub none-good : m ≡ 0 → Takes s at (taking.Entry a m)
+  pub none-good : m ≡ 0 → Takes s at (Some (record { start = a; length = m }))
   unfolding Takes need
   none-good z = (
     is ∙ rw (empty-entry (take m (drop a s)) (part_length s a m h ∙ z)),
     record { inside = h; is_f = λ l. absurd (omega arith) },
   )
 
-  pub form-good : (m ≡ 0 → ⊥) → true ≡ is_form (take (a + m - a) (drop a s)) → Takes s at (taking.Entry a m)
+  pub form-good : (m ≡ 0 → ⊥) → true ≡ is_form (take (a + m - a) (drop a s)) → Takes s at (Some (record { start = a; length = m }))
   unfolding Takes need
   form-good z f = (is ∙ rw (form-is z, ← part, ← f), record { inside = h; is_f = λ l. sym (rw part at f) })
 
@@ -100,18 +96,19 @@ module _ (s : List ℕ) (at a m : ℕ) (v : varint_at s at ≡ groups.Number m a
         record { inside = h; is_f = λ l. sym (form-is (λ z. omega arith)) ∙ n.0 },
       )
 
-pub take-bad : (s : List ℕ) (at : ℕ) → entry_from s at ≡ refused 42 → Takes s at taking.Bad
+pub take-bad : (s : List ℕ) (at : ℕ) → entry_from s at ≡ refused 42 → Takes s at None
 unfolding Takes
 take-bad s at e = e
 
-pub took-bad : (s : List ℕ) (at : ℕ) (r : Took) → Takes s at r → r ≡ taking.Bad → entry_from s at ≡ refused 42
+pub took-bad : (s : List ℕ) (at : ℕ) → Takes s at None → entry_from s at ≡ refused 42
 unfolding Takes
-took-bad s at r t e = rw e at t
+took-bad s at t = t
 
-pub took : (s : List ℕ) (at : ℕ) (r : Took) → Takes s at r → (a m : ℕ) → r ≡ taking.Entry a m
-    → (entry_from s at ≡ found (record { entry = take m (drop a s); next = a + m })) × Given s a m
+pub took : (s : List ℕ) (at : ℕ) (e : Entry) → Takes s at (Some e)
+    → (entry_from s at ≡ found (record { entry = take e.length (drop e.start s); next = e.start + e.length }))
+    × Given s e.start e.length
 unfolding Takes
-took s at r t a m e = rw e at t
+took s at e t = t
 
 -- ---- all entries read
 pub scan-none : (s : List ℕ) (at : ℕ) (acc : List (List ℕ)) (n : ℕ) → n ≡ 0
@@ -175,25 +172,24 @@ pub read-room : (s : List ℕ) (first n k at : ℕ) (acc : List (List ℕ)) (r :
 read-room s first n k at acc r g e = scan-more s at acc (n - k) r (g.rest ∙ e)
 
 -- ---- answers
-pub scans-bad : (s : List ℕ) (first n : ℕ) → scan s first [] n ≡ refused 42 → Scans s first n scanning.Bad
+pub scans-bad : (s : List ℕ) (first n : ℕ) → scan s first [] n ≡ refused 42 → Scans s first n None
 unfolding Scans
 scans-bad s first n e = e
 
 pub scans-good : (s : List ℕ) (first n at t : ℕ) (acc : List (List ℕ))
     → scan s first [] n ≡ found (record { held = acc; next = at }) → t ≡ total acc
-    → Scans s first n (scanning.Good at t)
+    → Scans s first n (Some (record { end = at; total = t }))
 unfolding Scans
 scans-good s first n at t acc e q = (record { held = acc; next = at }, e, refl, q)
 
-pub scanned-bad : (s : List ℕ) (first n : ℕ) (r : Scanned) → Scans s first n r → r ≡ scanning.Bad
-    → scan s first [] n ≡ refused 42
+pub scanned-bad : (s : List ℕ) (first n : ℕ) → Scans s first n None → scan s first [] n ≡ refused 42
 unfolding Scans
-scanned-bad s first n r g e = rw e at g
+scanned-bad s first n g = g
 
-pub scanned : (s : List ℕ) (first n : ℕ) (r : Scanned) → Scans s first n r → (at t : ℕ) → r ≡ scanning.Good at t
-    → (x : Scan) × (scan s first [] n ≡ found x) × (at ≡ x.next) × (t ≡ total x.held)
+pub scanned : (s : List ℕ) (first n : ℕ) (e : Scanned) → Scans s first n (Some e)
+    → (x : Scan) × (scan s first [] n ≡ found x) × (e.end ≡ x.next) × (e.total ≡ total x.held)
 unfolding Scans
-scanned s first n r g at t e = rw e at g
+scanned s first n e g = g
 
 pub total-none : 0 ≡ total []
 unfolding total

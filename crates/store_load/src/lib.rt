@@ -8,82 +8,68 @@ ghost use Rattle.store_spec.specs.Saved.{Scan, scan};
 ghost use Rattle.store_laws.proofs.Slots.{Lies};
 ghost use Rattle.store_load.specs.Loading.{Frames, Takes, Scans, Loading, Given};
 
-use row_spec::Varint;
-
-// An entry of saved bytes: bad, or where its bytes start and how many there are.
+// An entry of saved bytes: where its bytes start and how many there are.
 #[derive(Clone, Copy)]
-pub enum Took {
-    Bad,
-    Entry(usize, usize),
+pub struct Entry {
+    pub start: usize,
+    pub length: usize,
 }
 
-// The entries of saved bytes: bad, or where they end and how long their forms are together.
+// The entries of saved bytes: where they end and how long their forms are together.
 #[derive(Clone, Copy)]
-pub enum Scanned {
-    Bad,
-    Good(usize, usize),
+pub struct Scanned {
+    pub end: usize,
+    pub total: usize,
 }
 
-// The entry at `at`, by its length alone.
-fn entry_at(s: &[u8], at: usize) -> Took
+// The entry at `at`, by its length alone, if that is good.
+fn entry_at(s: &[u8], at: usize) -> Option<Entry>
     ensures { Frames s.now at result }
 {
-    match numbers::varint(s, at) {
-        Varint::CutShort => Took::Bad,
-        Varint::IllFormed => Took::Bad,
-        Varint::Number(n, next, short) => {
-            if !short {
-                return Took::Bad;
-            }
-            let m = n as usize;
-            if s.len() - next < m {
-                return Took::Bad;
-            }
-            Took::Entry(next, m)
-        }
+    let Ok(v) = numbers::varint(s, at) else {
+        return None;
+    };
+    if !v.shortest {
+        return None;
     }
+    let length = v.number as usize;
+    if s.len() - v.next < length {
+        return None;
+    }
+    Some(Entry {
+        start: v.next,
+        length,
+    })
 }
 
-// The entry at `at`: no bytes, or a written form.
-fn take_entry(s: &[u8], at: usize) -> Took
+// The entry at `at`, if it is good: no bytes, or a written form.
+fn take_entry(s: &[u8], at: usize) -> Option<Entry>
     ensures { Takes s.now at result }
 {
-    match entry_at(s, at) {
-        Took::Bad => Took::Bad,
-        Took::Entry(a, m) => {
-            if m == 0 {
-                return Took::Entry(a, m);
-            }
-            let e = a + m;
-            if form_check::is_form(&s[a..e]) {
-                return Took::Entry(a, m);
-            }
-            Took::Bad
-        }
+    let entry = entry_at(s, at)?;
+    if entry.length == 0 {
+        return Some(entry);
     }
+    let end = entry.start + entry.length;
+    if !form_check::is_form(&s[entry.start..end]) {
+        return None;
+    }
+    Some(entry)
 }
 
 // Judges n entries of s from `first` on.
-pub fn scan_entries(s: &[u8], first: usize, n: usize) -> Scanned
+pub fn scan_entries(s: &[u8], first: usize, n: usize) -> Option<Scanned>
     requires { n ≤ 64 }
     ensures { Scans s.now first n result }
 {
-    let mut at: usize = first;
-    let mut t: usize = 0;
-    let mut k: usize = 0;
-    while k < n {
-        match take_entry(s, at) {
-            Took::Bad => {
-                return Scanned::Bad;
-            }
-            Took::Entry(a, m) => {
-                at = a + m;
-                t += m;
-            }
-        }
-        k += 1;
+    let mut end: usize = first;
+    let mut total: usize = 0;
+    for k in 0..n {
+        let entry = take_entry(s, end)?;
+        end = entry.start + entry.length;
+        total += entry.length;
     }
-    Scanned::Good(at, t)
+    Some(Scanned { end, total })
 }
 
 // Empties all slots.
@@ -91,10 +77,8 @@ fn empty_all(dir: &mut [u32], n: usize)
     requires { (n ≤ 64) × (length dir.old ≡ 2 * n) }
     ensures { (j : ℕ) → j < n → length_at dir.new j ≡ 0 }
 {
-    let mut k: usize = 0;
-    while k < n {
+    for k in 0..n {
         dir[2 * k + 1] = 0;
-        k += 1;
     }
 }
 
@@ -129,17 +113,11 @@ pub fn give_all(dir: &mut [u32], buf: &mut [u8], n: usize, s: &[u8], first: usiz
     empty_all(dir, n);
     let mut at: usize = first;
     let mut to: usize = 0;
-    let mut k: usize = 0;
-    while k < n {
-        match entry_at(s, at) {
-            Took::Bad => {
-                return;
-            }
-            Took::Entry(a, m) => {
-                to = give(dir, buf, n, k, s, a, m, to);
-                at = a + m;
-            }
-        }
-        k += 1;
+    for k in 0..n {
+        let Some(entry) = entry_at(s, at) else {
+            return;
+        };
+        to = give(dir, buf, n, k, s, entry.start, entry.length, to);
+        at = entry.start + entry.length;
     }
 }

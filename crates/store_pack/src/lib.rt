@@ -13,10 +13,8 @@ pub fn used(dir: &[u32], n: usize) -> usize
     ensures { result ≡ tally (length_at dir.now) 0 n }
 {
     let mut t: usize = 0;
-    let mut k: usize = 0;
-    while k < n {
+    for k in 0..n {
         t += store_slots::length_of(dir, k);
-        k += 1;
     }
     t
 }
@@ -48,10 +46,8 @@ fn next_slot(dir: &[u32], n: usize, to: usize) -> usize
     ensures { Best n dir.now to n result }
 {
     let mut best = n;
-    let mut j: usize = 0;
-    while j < n {
+    for j in 0..n {
         best = better(dir, n, to, j, best);
-        j += 1;
     }
     best
 }

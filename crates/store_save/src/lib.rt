@@ -53,11 +53,9 @@ pub fn entries_size(dir: &[u32], n: usize) -> usize
     ensures { (result ≡ tally (entry_size dir.now) 0 n) × (result ≤ n * 2097155) }
 {
     let mut t: usize = 0;
-    let mut k: usize = 0;
-    while k < n {
+    for k in 0..n {
         let m = store_slots::length_of(dir, k);
         t += groups_size(m) + m;
-        k += 1;
     }
     t
 }
@@ -83,10 +81,8 @@ pub fn put_entries(dir: &[u32], buf: &[u8], n: usize, out: &mut [u8], at: usize)
     ensures { (result ≡ length (saved (entries_of n dir.now buf.now))) × (out.new ≡ written out.old at (saved (entries_of n dir.now buf.now))) }
 {
     let mut t: usize = 0;
-    let mut k: usize = 0;
-    while k < n {
+    for k in 0..n {
         t += put_entry(dir, buf, k, out, at + t);
-        k += 1;
     }
     t
 }

@@ -22,8 +22,10 @@ use Rattle.bitmap_laws.proofs.Round.{round}
 use Rattle.bitmap_laws.proofs.Parts.{part_length}
 use Rattle.store_spec.specs.Store.{is_form, length_at, entry_at, entries_of, entries, total, room_for, put_in}
 use Rattle.store_spec.specs.Store.{done_of, Left, Changes}
-use Rattle.store_spec.specs.declared.Stored.{Stored}
-use Rattle.store_spec.specs.declared.Stored.TheVariants as storing
+use Rattle.std.specs.Prelude.{Result, Ok, Err}
+use Rattle.common.specs.declared.Refusal.{Refusal}
+use Rattle.common.specs.declared.Refusal.TheVariants as refusal
+use Rattle.common.specs.Refusal.{number}
 use Rattle.store_laws.proofs.Slots.{Lies, is-form, form-few, entry-is, entry-long, many-entries, entries-is, total-set}
 use Rattle.store_laws.proofs.Slots.{total-is}
 use Rattle.store_laws.proofs.Changes.{clear-lies, clear-entries, laid-lies, laid-entries, change-refused}
@@ -107,13 +109,13 @@ module _ (n : ℕ) (dir buf : List ℕ) (k : ℕ) (w : List ℕ) (s : Lies n dir
 
     done : total (set (entries_of n dir buf) k w) ≤ length buf → (dir' buf' : List ℕ) → length dir' ≡ length dir
         → length buf' ≡ length buf → entries n dir' buf' ≡ found (set (entries_of n dir buf) k w)
-        → Changes (stored n dir buf k w) n dir buf dir' buf' storing.Done
+        → Changes (stored n dir buf k w) n dir buf dir' buf' (Ok tt)
     unfolding done_of Left
     done l dir' buf' d b q = record { says = rw (fits l); left = rw (fits l) (d, b, q) }
 
     pub no_room : (rest : ℕ) → rest ≡ tally (length_at dir) 0 n - length_at dir k → length buf < rest + length w
-        → Changes (stored n dir buf k w) n dir buf dir buf (storing.Refused 13)
-    no_room rest e l = change-refused (stored n dir buf k w) n dir buf 13 (full (omega (arith, taken, own-few)))
+        → Changes (stored n dir buf k w) n dir buf dir buf (Err refusal.Room)
+    no_room rest e l = change-refused (stored n dir buf k w) n dir buf refusal.Room (full (omega (arith, taken, own-few)))
 
     pub clear_room : (rest : ℕ) → rest ≡ tally (length_at dir) 0 n - length_at dir k → rest + length w ≤ length buf
         → tally (length_at (set dir (2 * k + 1) 0)) 0 n + length w ≤ length buf
@@ -129,7 +131,7 @@ module _ (n : ℕ) (dir buf : List ℕ) (k : ℕ) (w : List ℕ) (s : Lies n dir
     pub stored-done : (rest : ℕ) → rest ≡ tally (length_at dir) 0 n - length_at dir k → rest + length w ≤ length buf
         → (dir' buf' : List ℕ) → length dir' ≡ length dir → length buf' ≡ length buf → Lies n dir' buf'
         → entries_of n dir' buf' ≡ set (entries_of n (set dir (2 * k + 1) 0) buf) k w
-        → Changes (stored n dir buf k w) n dir buf dir' buf' storing.Done
+        → Changes (stored n dir buf k w) n dir buf dir' buf' (Ok tt)
     stored-done rest e l dir' buf' d b s' q = done (omega (arith, taken, own-few)) dir' buf' d b
         (entries-is n dir' buf' (d ∙ len) s' ∙ ap found
         (q ∙ ap (λ (es : List (List ℕ)). set es k w) (clear-entries n dir buf k s len h) ∙ set-set
@@ -162,7 +164,7 @@ pub put-stored : (n : ℕ) (dir buf bitmap l w : List ℕ) (k : ℕ) → Lies n 
 unfolding put_in stored
 put-stored n dir buf bitmap l w k s len e q = rw (entries-is n dir buf len s) (rw (e, q))
 
-pub changes-as : (o p : Outcome (List (List ℕ))) (n : ℕ) (dir buf dir' buf' : List ℕ) (r : Stored) → o ≡ p
+pub changes-as : (o p : Outcome (List (List ℕ))) (n : ℕ) (dir buf dir' buf' : List ℕ) (r : Result (Unit {0}) Refusal) → o ≡ p
     → Changes p n dir buf dir' buf' r → Changes o n dir buf dir' buf' r
 changes-as o p n dir buf dir' buf' r e c = rw e c
 

@@ -12,42 +12,41 @@ ghost use Rattle.store_laws.proofs.Slots.{Lies};
 ghost use Rattle.store_share.specs.Formed.{Formed, stored};
 
 use bitmap_rewrite::Prepared;
-use bitmap_spec::Written;
-use store_spec::Stored;
+use common::Refusal;
 
 // Copies the form of slot k to the start of out: 42, 41, 13.
-pub fn fetch(dir: &[u32], buf: &[u8], n: usize, k: usize, out: &mut [u8]) -> Written
+pub fn fetch(dir: &[u32], buf: &[u8], n: usize, k: usize, out: &mut [u8]) -> Result<usize, Refusal>
     requires { (n ≤ 64) × (k < n) × (length dir.now ≡ 2 * n) }
     ensures { Gives (then (entries n dir.now buf.now) (fetch_in (length out.old) k)) out.old out.new result }
 {
     if !store_slots::is_sound(dir, buf, n) {
-        return Written::Refused(42);
+        return Err(Refusal::StoreBad);
     }
     let m = store_slots::length_of(dir, k);
     if m == 0 {
-        return Written::Refused(41);
+        return Err(Refusal::StoreEmpty);
     }
     if out.len() < m {
-        return Written::Refused(13);
+        return Err(Refusal::Room);
     }
     let a = store_slots::start_of(dir, k);
     byte_move::copy_part(buf, a, m, out, 0);
-    Written::Length(m)
+    Ok(m)
 }
 
 // Empties slot k: 42, 41. Its length becomes 0, all else stays.
-pub fn clear(dir: &mut [u32], buf: &[u8], n: usize, k: usize) -> Stored
+pub fn clear(dir: &mut [u32], buf: &[u8], n: usize, k: usize) -> Result<(), Refusal>
     requires { (n ≤ 64) × (k < n) × (length dir.old ≡ 2 * n) }
     ensures { Drops (then (entries n dir.old buf.now) (drop_in k)) n k dir.old buf.now dir.new result }
 {
     if !store_slots::is_sound(dir, buf, n) {
-        return Stored::Refused(42);
+        return Err(Refusal::StoreBad);
     }
     if store_slots::length_of(dir, k) == 0 {
-        return Stored::Refused(41);
+        return Err(Refusal::StoreEmpty);
     }
     dir[2 * k + 1] = 0;
-    Stored::Done
+    Ok(())
 }
 
 // Lays a judged bitmap's form behind all others, which are moved together first, and gives it to the empty slot k.
@@ -57,18 +56,16 @@ fn lay(
     n: usize,
     k: usize,
     bitmap: &[u8],
-    start: usize,
     ds: &[u8],
-    card: u32,
-    size: usize,
+    form: Prepared,
 )
-    requires { (n ≤ 64) × (k < n) × (length dir.old ≡ 2 * n) × Lies n dir.old buf.old × (length_at dir.old k ≡ 0) × Formed bitmap.now start ds.now card size × (tally (length_at dir.old) 0 n + size ≤ length buf.old) }
-    ensures { Lies n dir.new buf.new × (entries_of n dir.new buf.new ≡ set (entries_of n dir.old buf.old) k (laid bitmap.now start ds.now card)) }
+    requires { (n ≤ 64) × (k < n) × (length dir.old ≡ 2 * n) × Lies n dir.old buf.old × (length_at dir.old k ≡ 0) × Formed bitmap.now form.start ds.now form.cardinality form.size × (tally (length_at dir.old) 0 n + form.size ≤ length buf.old) }
+    ensures { Lies n dir.new buf.new × (entries_of n dir.new buf.new ≡ set (entries_of n dir.old buf.old) k (laid bitmap.now form.start ds.now form.cardinality)) }
 {
     let end = store_pack::pack(dir, buf, n);
-    bitmap_rewrite::put_laid(bitmap, start, ds, card, &mut buf[end..]);
+    bitmap_rewrite::put_laid(bitmap, form.start, ds, form.cardinality, &mut buf[end..]);
     dir[2 * k] = end as u32;
-    dir[2 * k + 1] = size as u32;
+    dir[2 * k + 1] = form.size as u32;
 }
 
 // Puts a judged bitmap's form into slot k, or refuses for room.
@@ -78,49 +75,36 @@ fn replace(
     n: usize,
     k: usize,
     bitmap: &[u8],
-    start: usize,
     ds: &[u8],
-    card: u32,
-    size: usize,
-) -> Stored
-    requires { (n ≤ 64) × (k < n) × (length dir.old ≡ 2 * n) × Lies n dir.old buf.old × Formed bitmap.now start ds.now card size }
-    ensures { Changes (stored n dir.old buf.old k (laid bitmap.now start ds.now card)) n dir.old buf.old dir.new buf.new result }
+    form: Prepared,
+) -> Result<(), Refusal>
+    requires { (n ≤ 64) × (k < n) × (length dir.old ≡ 2 * n) × Lies n dir.old buf.old × Formed bitmap.now form.start ds.now form.cardinality form.size }
+    ensures { Changes (stored n dir.old buf.old k (laid bitmap.now form.start ds.now form.cardinality)) n dir.old buf.old dir.new buf.new result }
 {
     let rest = store_pack::used(dir, n) - store_slots::length_of(dir, k);
-    if buf.len() < rest + size {
-        return Stored::Refused(13);
+    if buf.len() < rest + form.size {
+        return Err(Refusal::Room);
     }
     dir[2 * k + 1] = 0;
-    lay(dir, buf, n, k, bitmap, start, ds, card, size);
-    Stored::Done
+    lay(dir, buf, n, k, bitmap, ds, form);
+    Ok(())
 }
 
 // Puts the written form of a bitmap into slot k: 42, the bitmap's own 1 to 11, 13.
-pub fn put(dir: &mut [u32], buf: &mut [u8], n: usize, k: usize, bitmap: &[u8]) -> Stored
+pub fn put(
+    dir: &mut [u32],
+    buf: &mut [u8],
+    n: usize,
+    k: usize,
+    bitmap: &[u8],
+) -> Result<(), Refusal>
     requires { (n ≤ 64) × (k < n) × (length dir.old ≡ 2 * n) }
     ensures { Changes (then (entries n dir.old buf.old) (put_in (length buf.old) k bitmap.now)) n dir.old buf.old dir.new buf.new result }
 {
     if !store_slots::is_sound(dir, buf, n) {
-        return Stored::Refused(42);
+        return Err(Refusal::StoreBad);
     }
     let mut d = [0u8; 8192];
-    match bitmap_rewrite::prepare(bitmap, &mut d) {
-        Prepared::Refused(r) => Stored::Refused(r),
-        Prepared::Form {
-            count,
-            start,
-            cardinality,
-            size,
-        } => replace(
-            dir,
-            buf,
-            n,
-            k,
-            bitmap,
-            start,
-            &d[..count],
-            cardinality,
-            size,
-        ),
-    }
+    let form = bitmap_rewrite::prepare(bitmap, &mut d)?;
+    replace(dir, buf, n, k, bitmap, &d[..form.count], form)
 }

@@ -64,12 +64,10 @@ fn apart_below(dir: &[u32], k: usize) -> bool
     requires { (k < 64) × (2 * k + 1 < length dir.now) }
     ensures { result ≡ every (apart dir.now k) (from 0 k) }
 {
-    let mut j: usize = 0;
-    while j < k {
+    for j in 0..k {
         if !two_apart(dir, k, j) {
             return false;
         }
-        j += 1;
     }
     true
 }
@@ -79,12 +77,10 @@ fn all_apart(dir: &[u32], n: usize) -> bool
     requires { (n ≤ 64) × (length dir.now ≡ 2 * n) }
     ensures { result ≡ every (λ k. every (apart dir.now k) (from 0 k)) (from 0 n) }
 {
-    let mut k: usize = 0;
-    while k < n {
+    for k in 0..n {
         if !apart_below(dir, k) {
             return false;
         }
-        k += 1;
     }
     true
 }
@@ -94,12 +90,10 @@ fn slots_ok(dir: &[u32], buf: &[u8], n: usize) -> bool
     requires { (n ≤ 64) × (length dir.now ≡ 2 * n) }
     ensures { result ≡ every (slot_ok dir.now buf.now) (from 0 n) }
 {
-    let mut k: usize = 0;
-    while k < n {
+    for k in 0..n {
         if !slot_ok(dir, buf, k) {
             return false;
         }
-        k += 1;
     }
     true
 }

@@ -2,10 +2,10 @@
 -- mean, what its calls make of that meaning, and what they leave.
 -- Owner o has the numbers of slots 32 · o to 32 · o + 31 and the o-th half of the buffer, from whose first byte its
 -- starts count. That is a share of 32 slots, and its entries are those of any share.
-use Rattle.std.specs.Prelude.{ℕ, ◌+◌, ◌*◌, ◌/◌, ◌%◌, ◌≡◌, Bool, List, ◌++◌, length, take, drop, ltb, eqb}
+use Rattle.std.specs.Prelude.{ℕ, ◌+◌, ◌*◌, ◌/◌, ◌%◌, ◌≡◌, Bool, List, ◌++◌, length, take, drop, ltb, eqb, Result}
 use Rattle.common.specs.Outcome.{Outcome, refused, found, then, need}
 use Rattle.store_spec.specs.Store.{entries, put_in, fetch_in, drop_in, told, done_of, emptied}
-use Rattle.store_spec.specs.declared.Stored.{Stored}
+use Rattle.common.specs.declared.Refusal.{Refusal}
 
 -- ---- what is an owner's
 
@@ -62,12 +62,12 @@ OwnLeft o (found es) dir buf dir' buf' =
     × Beside o 64 dir dir' × Beside o (half buf) buf buf'
 
 -- put: a call of owner o and outcome x answers r and turns dir and buf into dir' and buf'
-pub record OwnChanges (o : ℕ) (x : Outcome (List (List ℕ))) (dir buf dir' buf' : List ℕ) (r : Stored) : Type 0 where
+pub record OwnChanges (o : ℕ) (x : Outcome (List (List ℕ))) (dir buf dir' buf' : List ℕ) (r : Result (Unit {0}) Refusal) : Type 0 where
   pub says : told r ≡ done_of x
   pub left : OwnLeft o x dir buf dir' buf'
 
 -- drop of slot k: the same with the buffer as it was, and the directory to the number
-pub record OwnDrops (o : ℕ) (x : Outcome (List (List ℕ))) (k : ℕ) (dir buf dir' : List ℕ) (r : Stored) : Type 0 where
+pub record OwnDrops (o : ℕ) (x : Outcome (List (List ℕ))) (k : ℕ) (dir buf dir' : List ℕ) (r : Result (Unit {0}) Refusal) : Type 0 where
   pub says : told r ≡ done_of x
   pub numbers : dir' ≡ emptied x k dir
   pub left : OwnLeft o x dir buf dir' buf
@@ -80,6 +80,6 @@ AllLeft (found es) dir buf dir' buf' =
     (length dir' ≡ length dir) × (length buf' ≡ length buf) × (all_entries dir' buf' ≡ found es)
     × (drop (2 * half buf) buf' ≡ drop (2 * half buf) buf)
 
-pub record AllChanges (x : Outcome (List (List ℕ))) (dir buf dir' buf' : List ℕ) (r : Stored) : Type 0 where
+pub record AllChanges (x : Outcome (List (List ℕ))) (dir buf dir' buf' : List ℕ) (r : Result (Unit {0}) Refusal) : Type 0 where
   pub says : told r ≡ done_of x
   pub left : AllLeft x dir buf dir' buf'

@@ -1,13 +1,13 @@
 -- Runs of both owners' calls on one store: "two runs from one shelf, handed on unchanged, that agree in one crew's
 -- calls".
 -- A run is any in which each call keeps its contract, so where forms lie may differ from run to run.
-use Rattle.std.specs.Prelude.{ℕ, ◌≡◌, List, [], ◌∷◌, take, eqb}
+use Rattle.std.specs.Prelude.{ℕ, ◌≡◌, List, [], ◌∷◌, take, eqb, Result, Ok, Err}
 use Rattle.common.specs.Outcome.{pick, Outcome, refused, found}
 use Rattle.store_spec.specs.Store.{done_of}
 use Rattle.store_spec.specs.Owners.{put_on, fetch_on, drop_on, OwnLeft}
 use Rattle.store_spec.specs.Saved.{save_on}
-use Rattle.bitmap_spec.specs.declared.Written.{Written}
-use Rattle.bitmap_spec.specs.declared.Written.TheVariants as writing
+use Rattle.common.specs.declared.Refusal.{Refusal}
+use Rattle.common.specs.Refusal.{number}
 
 -- an owner's call: put a bitmap into a slot, fetch a slot into an output of so many bytes, empty a slot
 pub data Call : Type 0 where
@@ -28,9 +28,9 @@ Leaves o (fetches k out) dir buf dir' buf' = (dir' ≡ dir) × (buf' ≡ buf)
 Leaves o (drops k) dir buf dir' buf' = OwnLeft o (drop_on o k dir buf) dir buf dir' buf'
 
 -- the answer that fetch and save give with the output that they leave: the refusal, or its first bytes
-abbrev pub fetched : Written → List ℕ → Outcome (List ℕ)
-fetched (writing.Refused n) out = refused n
-fetched (writing.Length n) out = found (take n out)
+abbrev pub fetched : Result ℕ Refusal → List ℕ → Outcome (List ℕ)
+fetched (Err r) out = refused (number r)
+fetched (Ok n) out = found (take n out)
 
 -- owner o's call, answered a, turns dir and buf into dir' and buf'
 pub record Step (o : ℕ) (c : Call) (dir buf dir' buf' : List ℕ) (a : Outcome (List ℕ)) : Type 0 where

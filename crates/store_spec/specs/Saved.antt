@@ -1,10 +1,10 @@
 -- A saved store: "64 entries, each a length in groups of seven bits and then the bytes, 0 for an empty slot".
-use Rattle.std.specs.Prelude.{ℕ, zero, suc, ◌+◌, Bool, List, [], ◌∷◌, ◌++◌, length, take, drop, leb, eqb}
+use Rattle.std.specs.Prelude.{Result, Ok, Err, ℕ, zero, suc, ◌+◌, Bool, List, [], ◌∷◌, ◌++◌, length, take, drop, leb, eqb}
 use Rattle.common.specs.Outcome.{pick, either, Outcome, refused, found, then, need}
 use Rattle.bitmap_spec.specs.Output.{placed}
 use Rattle.row_spec.specs.Varint.{varint_at, shortest}
 use Rattle.row_spec.specs.declared.Varint.{Varint}
-use Rattle.row_spec.specs.declared.Varint.TheVariants.{Number, CutShort, IllFormed}
+use Rattle.row_spec.specs.declared.ReadFault.{ReadFault}
 use Rattle.store_spec.specs.Store.{is_form, total}
 use Rattle.store_spec.specs.Owners.{all_entries}
 
@@ -26,10 +26,9 @@ unfoldable pub is_entry : List ℕ → Bool
 is_entry e = either (eqb (length e) 0) (is_form e)
 
 -- "with shortest lengths": a padded length is as bad as none
-abbrev pub on_shortest : {A : Type 0} → Varint → A → (ℕ → ℕ → A) → A
-on_shortest CutShort bad f = bad
-on_shortest IllFormed bad f = bad
-on_shortest (Number n next short) bad f = pick short (f n next) bad
+abbrev pub on_shortest : {A : Type 0} → Result Varint ReadFault → A → (ℕ → ℕ → A) → A
+on_shortest (Err e) bad f = bad
+on_shortest (Ok r) bad f = pick r.shortest (f r.number r.next) bad
 
 -- an entry read, and the byte after it
 pub record Taken : Type 0 where

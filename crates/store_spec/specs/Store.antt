@@ -4,14 +4,14 @@
 -- Slot k of a share has its numbers 2k, where its form starts in the share's bytes, and 2k + 1, how long it is; a
 -- length of 0 is an empty slot, whatever its start says. An entry is the bytes that a slot holds: none, or the one
 -- written form of a set, which has at least six.
-use Rattle.std.specs.Prelude.{ℕ, ◌+◌, ◌*◌, ◌≡◌, Bool, true, false, List, [], ◌∷◌, map, length, get_or, set, take, drop, leb, eqb}
+use Rattle.std.specs.Prelude.{ℕ, ◌+◌, ◌*◌, ◌≡◌, Bool, true, false, List, [], ◌∷◌, map, length, get_or, set, take, drop, leb, eqb, Result, Ok, Err}
 use Rattle.common.specs.Outcome.{both, either, Outcome, refused, found, then, need}
 use Rattle.common.specs.Lists.{from, every}
 use Rattle.bitmap_spec.specs.Judge.{judge}
 use Rattle.bitmap_spec.specs.Form.{form}
 use Rattle.bitmap_spec.specs.Output.{placed}
-use Rattle.store_spec.specs.declared.Stored.{Stored}
-use Rattle.store_spec.specs.declared.Stored.TheVariants as storing
+use Rattle.common.specs.declared.Refusal.{Refusal}
+use Rattle.common.specs.Refusal.{number}
 
 -- ---- written forms
 
@@ -100,10 +100,10 @@ drop_in k es = need (some (get_or es k [])) 41 (found (set es k []))
 
 -- ---- what a call answers, and the store that it leaves
 
--- the answer that the code's enum stands for: the refusal, or no bytes
-abbrev pub told : Stored → Outcome (List ℕ)
-told (storing.Refused n) = refused n
-told storing.Done = found []
+-- the answer that a result stands for: the refusal, or no bytes
+abbrev pub told : Result (Unit {0}) Refusal → Outcome (List ℕ)
+told (Err r) = refused (number r)
+told (Ok u) = found []
 
 unfoldable pub done_of : Outcome (List (List ℕ)) → Outcome (List ℕ)
 done_of (refused n) = refused n
@@ -117,7 +117,7 @@ Left (found es) n dir buf dir' buf' =
     (length dir' ≡ length dir) × (length buf' ≡ length buf) × (entries n dir' buf' ≡ found es)
 
 -- put: a call of outcome o on a share of n slots answers r and turns dir and buf into dir' and buf'
-pub record Changes (o : Outcome (List (List ℕ))) (n : ℕ) (dir buf dir' buf' : List ℕ) (r : Stored) : Type 0 where
+pub record Changes (o : Outcome (List (List ℕ))) (n : ℕ) (dir buf dir' buf' : List ℕ) (r : Result (Unit {0}) Refusal) : Type 0 where
   pub says : told r ≡ done_of o
   pub left : Left o n dir buf dir' buf'
 
@@ -127,7 +127,7 @@ emptied (refused m) k dir = dir
 emptied (found es) k dir = set dir (2 * k + 1) 0
 
 -- drop: the same with the buffer as it was, and the directory to the number
-pub record Drops (o : Outcome (List (List ℕ))) (n k : ℕ) (dir buf dir' : List ℕ) (r : Stored) : Type 0 where
+pub record Drops (o : Outcome (List (List ℕ))) (n k : ℕ) (dir buf dir' : List ℕ) (r : Result (Unit {0}) Refusal) : Type 0 where
   pub says : told r ≡ done_of o
   pub numbers : dir' ≡ emptied o k dir
   pub left : Left o n dir buf dir' buf

@@ -14,81 +14,69 @@
 
 ghost use Rattle.std.specs.Prelude.{◌+◌, ◌≤◌, ◌<◌, length, IfOk};
 
-use bitmap_spec::Written;
+use common::Refusal;
 use std::io;
 use std::io::Write;
-use store_spec::Stored;
 
 // Word k as a number.
 fn number(line: &[u8], k: usize) -> u32 {
     vector_text::small(vector_text::word(line, k))
 }
 
-fn wide(n: u32) -> u64 {
-    n as u64
-}
-
-fn print_stored<W: Write>(to: &mut W, r: Stored) -> io::Result<()> {
-    match r {
-        Stored::Refused(n) => vector_text::print_after(to, b"refused ", wide(n))?,
-        Stored::Done => vector_text::print(to, b"done")?,
+fn print_done<W: Write>(to: &mut W, answer: Result<(), Refusal>) -> io::Result<()> {
+    match answer {
+        Err(refusal) => writeln!(to, "{refusal}"),
+        Ok(()) => writeln!(to, "done"),
     }
-    vector_text::print(to, b"\n")
 }
 
 // The answer, and the whole output.
-fn print_written<W: Write>(to: &mut W, r: Written, out: &[u8]) -> io::Result<()> {
-    match r {
-        Written::Refused(n) => vector_text::print_after(to, b"refused ", wide(n))?,
-        Written::Length(n) => vector_text::print_after(to, b"length ", n as u64)?,
+fn print_written<W: Write>(
+    to: &mut W,
+    answer: Result<usize, Refusal>,
+    out: &[u8],
+) -> io::Result<()> {
+    match answer {
+        Err(refusal) => write!(to, "{refusal}: ")?,
+        Ok(length) => write!(to, "length {length}: ")?,
     }
-    vector_text::print(to, b": ")?;
     vector_text::print_bytes(to, out)?;
-    vector_text::print(to, b"\n")
+    writeln!(to)
 }
 
 fn put<W: Write>(to: &mut W, line: &[u8], dir: &mut [u32], buf: &mut [u8]) -> io::Result<()> {
     let mut bitmap = [0u8; 512];
     let n = vector_text::decode(vector_text::word(line, 3), &mut bitmap);
-    let r = store::put(dir, buf, number(line, 1), number(line, 2), &bitmap[..n]);
-    print_stored(to, r)
+    print_done(
+        to,
+        store::put(dir, buf, number(line, 1), number(line, 2), &bitmap[..n]),
+    )
 }
 
-// Fetch or save into an output that is there.
-fn give<W: Write>(
-    to: &mut W,
-    line: &[u8],
-    dir: &[u32],
-    buf: &[u8],
-    out: &mut [u8],
-) -> io::Result<()> {
-    if vector_text::starts(line, b'f') {
-        let r = store::fetch(dir, buf, number(line, 2), number(line, 3), out);
-        return print_written(to, r, out);
-    }
-    let r = store::save(dir, buf, out);
-    print_written(to, r, out)
-}
-
-// Fetch or save, into an output of up to 1,024 bytes.
-fn give_out<W: Write>(to: &mut W, line: &[u8], dir: &[u32], buf: &[u8]) -> io::Result<()> {
-    let room = number(line, 1) as usize % 1025;
+fn fetch<W: Write>(to: &mut W, line: &[u8], dir: &[u32], buf: &[u8]) -> io::Result<()> {
     let mut out = [238u8; 1024];
-    give(to, line, dir, buf, &mut out[..room])
+    let room = &mut out[..number(line, 1) as usize % 1025];
+    let answer = store::fetch(dir, buf, number(line, 2), number(line, 3), room);
+    print_written(to, answer, room)
+}
+
+fn save<W: Write>(to: &mut W, line: &[u8], dir: &[u32], buf: &[u8]) -> io::Result<()> {
+    let mut out = [238u8; 1024];
+    let room = &mut out[..number(line, 1) as usize % 1025];
+    let answer = store::save(dir, buf, room);
+    print_written(to, answer, room)
 }
 
 fn load<W: Write>(to: &mut W, line: &[u8], dir: &mut [u32], buf: &mut [u8]) -> io::Result<()> {
     let mut saved = [0u8; 1024];
     let n = vector_text::decode(vector_text::word(line, 1), &mut saved);
-    let r = store::load(dir, buf, &saved[..n]);
-    print_stored(to, r)
+    print_done(to, store::load(dir, buf, &saved[..n]))
 }
 
 // A number of the directory, set.
 fn set_number(line: &[u8], dir: &mut [u32]) {
-    let i = number(line, 1) as usize;
-    if i < dir.len() {
-        dir[i] = number(line, 2);
+    if let Some(place) = dir.get_mut(number(line, 1) as usize) {
+        *place = number(line, 2);
     }
 }
 
@@ -103,67 +91,47 @@ fn set_bytes(line: &[u8], buf: &mut [u8]) {
 // The two numbers of a slot.
 fn view<W: Write>(to: &mut W, line: &[u8], dir: &[u32]) -> io::Result<()> {
     let i = number(line, 1) as usize;
-    if i < 64 {
-        if 2 * i + 1 < dir.len() {
-            vector_text::print_after(to, b"start ", wide(dir[2 * i]))?;
-            vector_text::print_after(to, b" length ", wide(dir[2 * i + 1]))?;
-            vector_text::print(to, b"\n")?;
-        }
+    if i < 64 && 2 * i + 1 < dir.len() {
+        writeln!(to, "start {} length {}", dir[2 * i], dir[2 * i + 1])?;
     }
     Ok(())
 }
 
 // A byte of the buffer.
 fn get<W: Write>(to: &mut W, line: &[u8], buf: &[u8]) -> io::Result<()> {
-    let at = number(line, 1) as usize;
-    if at < buf.len() {
-        vector_text::print(to, b"byte ")?;
-        vector_text::print_bytes(to, &buf[at..at + 1])?;
-        vector_text::print(to, b"\n")?;
+    match buf.get(number(line, 1) as usize) {
+        None => Ok(()),
+        Some(byte) => writeln!(to, "byte {byte:02x}"),
     }
-    Ok(())
 }
 
-// A step that changes the store.
-fn change<W: Write>(to: &mut W, line: &[u8], dir: &mut [u32], buf: &mut [u8]) -> io::Result<()> {
-    if vector_text::starts(line, b'p') {
-        return put(to, line, dir, buf);
+// A step, by its first letter. One that starts with # is printed; any other is passed over.
+fn step<W: Write>(to: &mut W, line: &[u8], dir: &mut [u32], buf: &mut [u8]) -> io::Result<()> {
+    match line.first() {
+        Some(b'p') => put(to, line, dir, buf),
+        Some(b'f') => fetch(to, line, dir, buf),
+        Some(b'd') => print_done(
+            to,
+            store::drop_slot(dir, buf, number(line, 1), number(line, 2)),
+        ),
+        Some(b's') => save(to, line, dir, buf),
+        Some(b'l') => load(to, line, dir, buf),
+        Some(b'a') => {
+            set_number(line, dir);
+            Ok(())
+        }
+        Some(b'b') => {
+            set_bytes(line, buf);
+            Ok(())
+        }
+        Some(b'v') => view(to, line, dir),
+        Some(b'g') => get(to, line, buf),
+        Some(b'#') => {
+            to.write_all(line)?;
+            writeln!(to)
+        }
+        _ => Ok(()),
     }
-    if vector_text::starts(line, b'l') {
-        return load(to, line, dir, buf);
-    }
-    if vector_text::starts(line, b'd') {
-        let r = store::drop_slot(dir, buf, number(line, 1), number(line, 2));
-        return print_stored(to, r);
-    }
-    if vector_text::starts(line, b'a') {
-        set_number(line, dir);
-        return Ok(());
-    }
-    if vector_text::starts(line, b'b') {
-        set_bytes(line, buf);
-    }
-    Ok(())
-}
-
-// A step that leaves the store as it is; a line that starts with # is printed.
-fn look<W: Write>(to: &mut W, line: &[u8], dir: &[u32], buf: &[u8]) -> io::Result<()> {
-    if vector_text::comment(to, line)? {
-        return Ok(());
-    }
-    if vector_text::starts(line, b'f') {
-        return give_out(to, line, dir, buf);
-    }
-    if vector_text::starts(line, b's') {
-        return give_out(to, line, dir, buf);
-    }
-    if vector_text::starts(line, b'v') {
-        return view(to, line, dir);
-    }
-    if vector_text::starts(line, b'g') {
-        return get(to, line, buf);
-    }
-    Ok(())
 }
 
 // The steps from `from` on, up to the next store; says where that starts.
@@ -178,14 +146,14 @@ fn show_steps<W: Write>(
     ensures { IfOk result (λ r. (from ≤ r) × (r ≤ length text.now + 1)) }
 {
     let mut at = from;
+    // the step is a line
     while at < text.len() {
-        let end = vector_text::find(text, at, b'\n');
+        let end = at + vector_text::find(&text[at..], b'\n');
         let line = &text[at..end];
-        if vector_text::starts(line, b'n') {
+        if line.first() == Some(&b'n') {
             return Ok(at);
         }
-        change(to, line, dir, buf)?;
-        look(to, line, dir, buf)?;
+        step(to, line, dir, buf)?;
         at = end + 1;
     }
     Ok(at)
@@ -196,7 +164,7 @@ fn show_store<W: Write>(to: &mut W, text: &[u8], at: usize) -> io::Result<usize>
     requires { at ≤ length text.now }
     ensures { IfOk result (λ r. (at < r) × (r ≤ length text.now + 1)) }
 {
-    let end = vector_text::find(text, at, b'\n');
+    let end = at + vector_text::find(&text[at..], b'\n');
     let line = &text[at..end];
     let bytes = number(line, 1) as usize % 1025;
     let numbers = number(line, 2) as usize % 131;
@@ -207,6 +175,7 @@ fn show_store<W: Write>(to: &mut W, text: &[u8], at: usize) -> io::Result<usize>
 
 fn show_stores<W: Write>(to: &mut W, text: &[u8]) -> io::Result<()> {
     let mut at: usize = 0;
+    // the step is a store
     while at < text.len() {
         at = show_store(to, text, at)?;
     }

@@ -1,5 +1,6 @@
 -- When a cell holds what was read: by what is asked before it, then by how the value is stored.
 -- Assumes nothing.
+use Rattle.std.specs.Prelude.{Ok, Err}
 use mathlib.Core.Path.{◌≡◌, refl, sym, ap, ◌∙◌}
 use mathlib.Core.Bool.{Bool, true, false}
 use mathlib.Core.List.{List, [], ◌∷◌}
@@ -11,14 +12,17 @@ use borrow.Author.Tests.{leb-true, eqb-true, eqb-false}
 use Rattle.common.specs.Outcome.{pick, one}
 use Rattle.common.specs.Bytes.{signed_of, little_at, big_at}
 use Rattle.common.proofs.Outcomes.{clash}
-use Rattle.row_spec.specs.Value.{room, word_at, boolean_at, whole_at, sized_of, nanos_of, stored_at}
+use Rattle.row_spec.specs.Read.{read}
+use Rattle.row_spec.specs.Varint.{varint, on_varint}
+use Rattle.row_spec.specs.Value.{Value, room, word_at, boolean_at, whole_at, sized_of, nanos_of, stored_at}
 use Rattle.row_spec.specs.Page.{unsigned, listed}
 use Rattle.row_spec.specs.declared.Field.{Field}
 use Rattle.row_spec.specs.declared.Field.TheVariants as field
 use Rattle.row_spec.specs.declared.Storage.TheVariants as storage
-use Rattle.row_spec.specs.declared.Value.{Value}
-use Rattle.row_spec.specs.declared.Value.TheVariants.{Read, CutShort, Bad}
-use Rattle.row_spec.specs.declared.Varint.TheVariants.{Number}
+use Rattle.row_spec.specs.declared.Read.{Read}
+use Rattle.row_spec.specs.declared.ReadFault.{ReadFault}
+use Rattle.row_spec.specs.declared.ReadFault.TheVariants.{CutShort, IllFormed}
+use Rattle.row_laws.proofs.Varints.{same-ok}
 use Rattle.row_laws.proofs.TwosComplement.{unsigned-word}
 use Rattle.row_laws.proofs.Patterns.{single-listed, double-listed}
 use Rattle.value_list.specs.declared.Cell.{Cell}
@@ -29,31 +33,34 @@ pub not_there : {A : Type 0} {t u : Bool} → t ≡ u → t ≡ false → u ≡ 
 not_there e f g = clash (ap one (sym f ∙ e ∙ g))
 
 module _ (c : Cell) where
-  pub cut_holds : Holds CutShort c
-  cut_holds = record { numbers = λ f next e. clash (cc); ends = λ f next e. clash (cc) }
+  -- where nothing was read any cell will do
+  pub fault-holds : (r : ReadFault) → Holds (Err r) c
+  fault-holds r = record { numbers = λ f next e. clash (cc); ends = λ f next e. clash (cc) }
 
-  pub bad-holds : Holds Bad c
-  bad-holds = record { numbers = λ f next e. clash (cc); ends = λ f next e. clash (cc) }
+  pub number-fault-holds : (r : ReadFault) (f : ℕ → ℕ → Value)
+      → Holds (on_varint (Err r) (Err CutShort) (Err IllFormed) f) c
+  number-fault-holds CutShort f = fault-holds CutShort
+  number-fault-holds IllFormed f = fault-holds IllFormed
 
-  pub read-holds : (f : Field) (next : ℕ) → numbers_in c ≡ listed f → c.next ≡ next → Holds (Read f next) c
+  pub read-holds : (f : Field) (next : ℕ) → numbers_in c ≡ listed f → c.next ≡ next → Holds (Ok (read f next)) c
   read-holds f next n e =
       record {
-        numbers = λ g after q. let p : f ≡ g = cc in n ∙ ap listed p;
-        ends = λ g after q. let p : next ≡ after = cc in e ∙ p;
+        numbers = λ g after q. let p : f ≡ g = ap (λ (r : Read Field). r.value) (same-ok q) in n ∙ ap listed p;
+        ends = λ g after q. let p : next ≡ after = ap (λ (r : Read Field). r.next) (same-ok q) in e ∙ p;
       }
 
-  pub pick-holds : (t : Bool) (v : Value) → Holds v c → Holds (pick t v Bad) c
+  pub pick-holds : (t : Bool) (v : Value) → Holds v c → Holds (pick t v (Err IllFormed)) c
   pick-holds true v h = h
-  pick-holds false v h = bad-holds
+  pick-holds false v h = fault-holds IllFormed
 
   pub room-holds : (s : List ℕ) (at w : ℕ) (v : Value) → (leb (at + w) (length s) ≡ true → Holds v c)
       → Holds (room s at w v) c
   unfolding room
   room-holds s at w v h = by-test (leb (at + w) (length s)) refl
     where
-      by-test : (t : Bool) → leb (at + w) (length s) ≡ t → Holds (pick t v CutShort) c
+      by-test : (t : Bool) → leb (at + w) (length s) ≡ t → Holds (pick t v (Err CutShort)) c
       by-test true e = h e
-      by-test false e = cut_holds
+      by-test false e = fault-holds CutShort
 
 -- a byte that is 0 or 1 is the number of its truth value
 small : (n : ℕ) → n ≤ 1 → n ≡ one (eqb n 1)
@@ -65,7 +72,7 @@ small n h = by-test (eqb n 1) refl
 
 -- a cell of these numbers
 cell_holds : (c : Cell) (k n m : ℕ) (f : Field) (next : ℕ) → c ≡ cell_of k n m next → k ∷ n ∷ m ∷ [] ≡ listed f
-    → Holds (Read f next) c
+    → Holds (Ok (read f next)) c
 cell_holds c k n m f next is e =
     read-holds c f next (ap numbers_in is ∙ e) (ap (λ (x : Cell). x.next) is)
 
@@ -92,8 +99,8 @@ module _ (big : Bool) (s : List ℕ) (at : ℕ) (c : Cell) where
       room-holds c s at 1 _ (λ r. by-test (leb (get_or s at 0) 1) refl (h r).0)
     where
       by-test : (t : Bool) → leb (get_or s at 0) 1 ≡ t → c ≡ cell_of 1 (word_at big s at 1) 0 (at + 1)
-          → Holds (pick t (Read (field.Bool (eqb (get_or s at 0) 1)) (at + 1)) Bad) c
-      by-test false e is = bad-holds c
+          → Holds (pick t (Ok (read (field.Bool (eqb (get_or s at 0) 1)) (at + 1))) (Err IllFormed)) c
+      by-test false e is = fault-holds c IllFormed
       by-test true e is =
           cell_holds c 1 (word_at big s at 1) 0 (field.Bool (eqb (get_or s at 0) 1)) (at + 1) is
           (ap (λ (n : ℕ). 1 ∷ n ∷ 0 ∷ []) (byte_word ∙ small (get_or s at 0) (leb-true (get_or s at 0) 1 e)))
@@ -136,7 +143,7 @@ module _ (big : Bool) (s : List ℕ) (at : ℕ) (c : Cell) where
 -- ---- values after a number in groups of seven bits
 pub place-holds : (s : List ℕ) (least n next : ℕ) (short : Bool) (c : Cell)
     → (leb (next + n) (length s) ≡ true → c ≡ cell_of 6 next n (next + n))
-    → Holds (sized_of s least (Number n next short)) c
+    → Holds (sized_of s least (Ok (varint n next short))) c
 unfolding sized_of listed
 place-holds s least n next short c h =
     room-holds c s next n _ (λ r.
@@ -144,7 +151,7 @@ place-holds s least n next short c h =
 
 pub nanos-holds : (count n next : ℕ) (short : Bool) (c : Cell) → count < 18446744073709551616
     → c ≡ cell_of 5 count n next
-    → Holds (nanos_of (signed_of 9223372036854775808 count) (Number n next short)) c
+    → Holds (nanos_of (signed_of 9223372036854775808 count) (Ok (varint n next short))) c
 unfolding nanos_of listed
 nanos-holds count n next short c h is =
     pick-holds c (leb n 999999) _

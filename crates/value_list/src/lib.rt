@@ -1,16 +1,17 @@
 #![tactic(auto)]
 
 // Stored values as the numbers of a page: three for each field, one field after the other. Inner: no entry point.
-ghost use Rattle.std.specs.Prelude.{◌≡◌, true, false, ℕ, min, ◌≤◌, ◌<◌, ◌+◌, ◌-◌, ◌*◌, ◌^◌, leb, eqb, length};
-ghost use Rattle.common.specs.Outcome.{pick, both};
+ghost use Rattle.std.specs.Prelude.{◌≡◌, true, false, ℕ, min, ◌≤◌, ◌<◌, ◌+◌, ◌-◌, ◌*◌, ◌^◌, leb, eqb, length, Ok};
+ghost use Rattle.common.specs.Outcome.{pick};
 ghost use Rattle.common.specs.Bytes.{signed_of, low_bit};
-ghost use Rattle.row_spec.specs.Varint.{varint_at};
+ghost use Rattle.row_spec.specs.Read.{read};
+ghost use Rattle.row_spec.specs.Varint.{varint, varint_at};
 ghost use Rattle.row_spec.specs.Value.{word_at, sized_of, nanos_of, count_at, stored_at};
 ghost use Rattle.row_spec.specs.Page.{unsigned};
-ghost use Rattle.value_list.specs.Cell.{cell_of, Holds, Puts, Ran};
+ghost use Rattle.value_list.specs.Cell.{cell_of, null_bit, Holds, Puts, Ran};
 
 use numbers::{bit_at, has, varint, wide, word};
-use row_spec::{Field, Storage, Value, Varint};
+use row_spec::{Field, Storage};
 
 // The three numbers of a field, and the place of the byte after it.
 #[derive(Clone, Copy)]
@@ -21,14 +22,13 @@ pub struct Cell {
     pub next: usize,
 }
 
-// How a run of fields lies: in a bucket or a row; all stored as the first or each as its own; and whether there are null bits, at
-// which byte, and which of them is the first field's.
+// How a run of fields lies: in a bucket or a row; all stored as the first or each as its own; at which byte the null
+// bits start, if there are any, and which of them is the first field's.
 #[derive(Clone, Copy)]
 pub struct Run {
     pub big: bool,
     pub same: bool,
-    pub mapped: bool,
-    pub nulls: usize,
+    pub nulls: Option<usize>,
     pub bit: usize,
 }
 
@@ -77,21 +77,15 @@ fn whole_cell(big: bool, s: &[u8], at: usize, w: usize, half: u64) -> Cell
     cell_of(0, 0, 0, at)
 }
 
-// The place of bytes whose length was read as r.
-fn place_cell(s: &[u8], r: Varint) -> Cell
-    ensures { (least : ℕ) → Holds (sized_of s.now least r) result }
+// The place of n bytes from next on.
+fn place_cell(s: &[u8], n: u32, next: usize) -> Cell
+    ensures { (least : ℕ) → Holds (sized_of s.now least (Ok (varint n next true))) result }
 {
-    match r {
-        Varint::CutShort => cell_of(0, 0, 0, 0),
-        Varint::IllFormed => cell_of(0, 0, 0, 0),
-        Varint::Number(n, next, _) => {
-            let len = n as usize;
-            if has(s, next, len) {
-                return cell_of(6, next as u64, n as u64, next + len);
-            }
-            cell_of(0, 0, 0, 0)
-        }
+    let len = n as usize;
+    if has(s, next, len) {
+        return cell_of(6, next as u64, n as u64, next + len);
     }
+    cell_of(0, 0, 0, 0)
 }
 
 // The place of bytes after their length. A length of one byte is the common case, and read without a call.
@@ -101,20 +95,12 @@ fn sized_cell(s: &[u8], at: usize) -> Cell
     if at < s.len() {
         let b = wide(s[at]);
         if b < 128 {
-            return place_cell(s, Varint::Number(b as u32, at + 1, true));
+            return place_cell(s, b as u32, at + 1);
         }
     }
-    place_cell(s, varint(s, at))
-}
-
-// The time of this count, in 64 bits, with the nanoseconds that were read as r.
-fn nanos_cell(count: u64, r: Varint) -> Cell
-    ensures { Holds (nanos_of (signed_of 9223372036854775808 count) r) result }
-{
-    match r {
-        Varint::CutShort => cell_of(0, 0, 0, 0),
-        Varint::IllFormed => cell_of(0, 0, 0, 0),
-        Varint::Number(n, next, _) => cell_of(5, count, n as u64, next),
+    match varint(s, at) {
+        Ok(length) => place_cell(s, length.number, length.next),
+        Err(_) => cell_of(0, 0, 0, 0),
     }
 }
 
@@ -122,10 +108,13 @@ fn nanos_cell(count: u64, r: Varint) -> Cell
 fn time_varint_cell(big: bool, s: &[u8], at: usize) -> Cell
     ensures { Holds (stored_at big s.now at Storage.TimeVarint) result }
 {
-    if has(s, at, 8) {
-        return nanos_cell(word(big, s, at, 8), varint(s, at + 8));
+    if !has(s, at, 8) {
+        return cell_of(0, 0, 0, 0);
     }
-    cell_of(0, 0, 0, 0)
+    match varint(s, at + 8) {
+        Ok(nanos) => cell_of(5, word(big, s, at, 8), nanos.number as u64, nanos.next),
+        Err(_) => cell_of(0, 0, 0, 0),
+    }
 }
 
 // A TIMESTAMP with 4 bytes of nanoseconds.
@@ -133,8 +122,8 @@ fn time_fixed_cell(big: bool, s: &[u8], at: usize) -> Cell
     ensures { Holds (stored_at big s.now at Storage.TimeFixed) result }
 {
     if has(s, at, 12) {
-        let n = word(big, s, at + 8, 4) as u32;
-        return nanos_cell(word(big, s, at, 8), Varint::Number(n, at + 12, true));
+        let count = word(big, s, at, 8);
+        return cell_of(5, count, word(big, s, at + 8, 4), at + 12);
     }
     cell_of(0, 0, 0, 0)
 }
@@ -158,19 +147,19 @@ fn cell_at(big: bool, s: &[u8], at: usize, st: Storage) -> Cell
     }
 }
 
-// Whether bit i of the null bits at `nulls` is set, if there are any.
-pub fn is_null(s: &[u8], mapped: bool, nulls: usize, i: usize) -> bool
-    ensures { result ≡ both mapped (eqb (low_bit s.now nulls i) 1) }
+// Whether bit i of the null bits is set, if there are any.
+pub fn is_null(s: &[u8], nulls: Option<usize>, i: usize) -> bool
+    ensures { result ≡ null_bit s.now nulls i }
 {
-    if mapped {
-        return bit_at(s, nulls, i) == 1;
+    match nulls {
+        Some(at) => bit_at(s, at, i) == 1,
+        None => false,
     }
-    false
 }
 
 // A field that is null, or the value at `at`.
 fn field_cell(big: bool, s: &[u8], null: bool, at: usize, st: Storage) -> Cell
-    ensures { Holds (pick null (Value.Read Field.Null at) (stored_at big s.now at st)) result }
+    ensures { Holds (pick null (Ok (read Field.Null at)) (stored_at big s.now at st)) result }
 {
     if null {
         return cell_of(0, 0, 0, at);
@@ -213,14 +202,12 @@ pub fn list_run(
     ensures { Ran s.now storages run n from k list.old list.new result }
 {
     let mut at = from;
-    let mut m = 0;
-    while m < n {
+    for m in 0..n {
         let st = storages[which(run.same, m)];
-        let null = is_null(s, run.mapped, run.nulls, run.bit + m);
+        let null = is_null(s, run.nulls, run.bit + m);
         let c = field_cell(run.big, s, null, at, st);
         put_cell(list, k + 3 * m, c);
         at = c.next;
-        m += 1;
     }
     at
 }
@@ -229,11 +216,5 @@ pub fn list_run(
 pub fn rows_given(rows: usize, place: usize, fit: usize) -> usize
     ensures { result ≡ min fit (rows - place) }
 {
-    if rows <= place {
-        return 0;
-    }
-    if fit < rows - place {
-        return fit;
-    }
-    rows - place
+    fit.min(rows.saturating_sub(place))
 }

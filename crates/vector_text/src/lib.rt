@@ -7,6 +7,7 @@ use std::io;
 use std::io::{Read, Write};
 
 // Reads until buf is full or the input ends, and says how many bytes it put at the start of buf.
+// A while: each turn puts as many bytes as the input gives.
 pub fn read_full<R: Read>(input: &mut R, buf: &mut [u8]) -> io::Result<usize>
     ensures { IfOk result (λ n. n ≤ length buf.new) }
 {
@@ -21,83 +22,51 @@ pub fn read_full<R: Read>(input: &mut R, buf: &mut [u8]) -> io::Result<usize>
     Ok(done)
 }
 
-// Where the first c at or after `from` lies, or the text's end.
-pub fn find(text: &[u8], from: usize, c: u8) -> usize
-    requires { from ≤ length text.now }
-    ensures { (from ≤ result) × (result ≤ length text.now) }
+// Reads up to 65,536 bytes of lines and shows each one. An empty line is passed over, and one that starts with # is printed.
+pub fn show_lines<R: Read, W: Write, F: FnMut(&mut W, &[u8]) -> io::Result<()>>(
+    input: &mut R,
+    to: &mut W,
+    mut show: F,
+) -> io::Result<()>
+    requires { F.IsAlwaysCallable show }
 {
-    let mut i = from;
-    while i < text.len() {
-        if text[i] == c {
-            return i;
+    let mut text = [0u8; 65536];
+    let n = read_full(input, &mut text)?;
+    for line in text[..n].split(|c| *c == b'\n') {
+        match line.first() {
+            None => {}
+            Some(b'#') => {
+                to.write_all(line)?;
+                writeln!(to)?;
+            }
+            Some(_) => show(to, line)?,
         }
-        i += 1;
     }
-    i
+    to.flush()
 }
 
-// Whether c stands between words.
-fn gap(c: u8) -> bool {
-    c == b' ' || c == b',' || c == b':'
-}
-
-// Where the gaps, or the word, that start at `from` end.
-fn skip(line: &[u8], from: usize, gaps: bool) -> usize
-    requires { from ≤ length line.now }
-    ensures { (from ≤ result) × (result ≤ length line.now) }
-{
-    let mut i = from;
-    while i < line.len() {
-        if gap(line[i]) != gaps {
-            return i;
-        }
-        i += 1;
-    }
-    i
-}
-
-// Word k, from 0 on; without it, the empty end of the line.
+// Word k, from 0 on; without it, an empty one. Spaces, commas and colons stand between words.
 pub fn word<'a>(line: &'a [u8], k: usize) -> &'a [u8] {
-    let mut start = skip(line, 0, true);
-    let mut i: usize = 0;
-    while i < k {
-        start = skip(line, skip(line, start, false), true);
-        i += 1;
-    }
-    let end = skip(line, start, false);
-    &line[start..end]
+    line.split(|c| *c == b' ' || *c == b',' || *c == b':')
+        .filter(|w| !w.is_empty())
+        .nth(k)
+        .unwrap_or(&[])
 }
 
-// The line up to its first c, and after it.
+// Where the first c lies, or the line's end.
+pub fn find(line: &[u8], c: u8) -> usize
+    ensures { result ≤ length line.now }
+{
+    line.iter().position(|x| *x == c).unwrap_or(line.len())
+}
+
+// The line up to its first c, and from there on.
 pub fn before<'a>(line: &'a [u8], c: u8) -> &'a [u8] {
-    let n = find(line, 0, c);
-    &line[..n]
+    &line[..find(line, c)]
 }
 
 pub fn after<'a>(line: &'a [u8], c: u8) -> &'a [u8] {
-    let n = find(line, 0, c);
-    &line[n..]
-}
-
-// Whether the text starts with c.
-pub fn starts(text: &[u8], c: u8) -> bool {
-    if text.len() == 0 {
-        return false;
-    }
-    text[0] == c
-}
-
-// Whether the line is empty or a comment, which starts with # and is printed.
-pub fn comment<W: Write>(to: &mut W, line: &[u8]) -> io::Result<bool> {
-    if line.len() == 0 {
-        return Ok(true);
-    }
-    if line[0] == b'#' {
-        print(to, line)?;
-        print(to, b"\n")?;
-        return Ok(true);
-    }
-    Ok(false)
+    &line[find(line, c)..]
 }
 
 // The value of a hexadecimal digit.
@@ -111,22 +80,11 @@ fn digit(c: u8) -> u8
 pub fn decode(digits: &[u8], out: &mut [u8]) -> usize
     ensures { result ≤ length out.new }
 {
-    let pairs = digits.len() / 2;
-    let mut n: usize = 0;
-    while n < pairs {
-        if out.len() <= n {
-            return n;
-        }
-        out[n] = digit(digits[n * 2]) * 16 + digit(digits[n * 2 + 1]);
-        n += 1;
+    let n = out.len().min(digits.len() / 2);
+    for (byte, pair) in out.iter_mut().zip(digits.chunks_exact(2)) {
+        *byte = digit(pair[0]) * 16 + digit(pair[1]);
     }
     n
-}
-
-fn wide(x: u8) -> u64
-    ensures { result < 256 }
-{
-    x as u64
 }
 
 // A decimal number of up to 19 digits.
@@ -134,10 +92,8 @@ pub fn number(digits: &[u8]) -> u64
     ensures { result < 10000000000000000000 }
 {
     let mut n: u64 = 0;
-    let mut i: usize = 0;
-    while i < digits.len() {
-        n = n % 1000000000000000000 * 10 + wide(digits[i]) % 16 % 10;
-        i += 1;
+    for d in digits {
+        n = n % 1000000000000000000 * 10 + u64::from(*d % 16 % 10);
     }
     n
 }
@@ -149,17 +105,10 @@ pub fn small(digits: &[u8]) -> u32 {
 
 // A decimal number, with a minus or without, as two's complement of 64 bits.
 pub fn signed(digits: &[u8]) -> u64 {
-    if digits.len() == 0 {
-        return 0;
+    match digits.first() {
+        Some(b'-') => number(&digits[1..]).wrapping_neg(),
+        _ => number(digits),
     }
-    if digits[0] == b'-' {
-        let n = number(&digits[1..]);
-        if n == 0 {
-            return 0;
-        }
-        return 18446744073709551615 - n + 1;
-    }
-    number(digits)
 }
 
 // Prints the bytes as pairs of hexadecimal digits.
@@ -168,14 +117,4 @@ pub fn print_bytes<W: Write>(to: &mut W, s: &[u8]) -> io::Result<()> {
         write!(to, "{b:02x}")?;
     }
     Ok(())
-}
-
-pub fn print<W: Write>(to: &mut W, text: &[u8]) -> io::Result<()> {
-    to.write_all(text)
-}
-
-// Prints a text and a number.
-pub fn print_after<W: Write>(to: &mut W, text: &[u8], n: u64) -> io::Result<()> {
-    to.write_all(text)?;
-    write!(to, "{n}")
 }

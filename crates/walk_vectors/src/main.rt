@@ -1,62 +1,37 @@
-// Walks rows field by field through row_walk, with the walker held in a local and lent by `&mut`: a line of standard input for each
-// row, in hexadecimal digits, with the whole numbers wanted. The output has a line for the null bitmap and one for each field, with
-// the place after it, and was worked out by hand from 01 as 02 amends it.
+// Walks rows field by field through row_walk, with the walker held in a local and lent by `&mut`: a line of standard
+// input for each row, in hexadecimal digits, with the whole numbers wanted. The output has a line for the null bitmap
+// and one for each field, with the place after it, and was worked out by hand from 01 as 02 amends it.
 #![tactic(auto)]
 
 ghost use Rattle.std.specs.Prelude.{◌≡◌};
-ghost use Rattle.row_spec.specs.Answer.{count_outcome, field_outcome};
+ghost use Rattle.common.specs.Refusal.{outcome};
 ghost use Rattle.row_walk.specs.Walk.{head_of, next_of, answer_of, place_of};
 
-use row_spec::{Column, ColumnAnswer, CountAnswer, FieldAnswer};
+use common::Refusal;
+use row_spec::{Column, Field};
 use row_walk::RowWalker;
 use std::io;
 use std::io::Write;
 
-// The place after a row's null bitmap, and the answer.
-#[derive(Clone, Copy)]
-struct HeadTurn {
-    at: usize,
-    answer: CountAnswer,
-}
-
-// The place after a field, and the answer.
-#[derive(Clone, Copy)]
-struct FieldTurn {
-    at: usize,
-    answer: FieldAnswer,
-}
-
-// A new walker's null bitmap.
-fn walk_head(row: &[u8], columns: u16) -> HeadTurn
-    ensures { (count_outcome result.answer ≡ answer_of (head_of row.now columns)) × (result.at ≡ place_of (head_of row.now columns) 0) }
+// A new walker's null bitmap: the place after it, and the answer.
+fn walk_head(row: &[u8], columns: u16) -> (usize, Result<u32, Refusal>)
+    ensures { (outcome result.1 ≡ answer_of (head_of row.now columns)) × (result.0 ≡ place_of (head_of row.now columns) 0) }
 {
     let mut w = row_walk::new(row);
     let answer = row_walk::begin(&mut w, columns);
-    HeadTurn { at: w.at, answer }
+    (w.at, answer)
 }
 
-// Field i of a walker that stands at a place.
-fn walk_field(row: &[u8], at: usize, i: usize, c: Column) -> FieldTurn
-    ensures { (field_outcome result.answer ≡ answer_of (next_of row.now i c at)) × (result.at ≡ place_of (next_of row.now i c at) at) }
+// Field i of a walker that stands at a place: the place after it, and the answer.
+fn walk_field(row: &[u8], at: usize, i: usize, c: Column) -> (usize, Result<Field, Refusal>)
+    ensures { (outcome result.1 ≡ answer_of (next_of row.now i c at)) × (result.0 ≡ place_of (next_of row.now i c at) at) }
 {
     let mut w = RowWalker { row, at };
     let answer = row_walk::next(&mut w, i, c);
-    FieldTurn { at: w.at, answer }
+    (w.at, answer)
 }
 
-// The place after a field, and whether the walk ends.
-#[derive(Clone, Copy)]
-struct Stand {
-    at: usize,
-    ends: bool,
-}
-
-fn print_place<W: Write>(to: &mut W, at: usize) -> io::Result<()> {
-    vector_text::print_after(to, b", place ", at as u64)?;
-    vector_text::print(to, b"\n")
-}
-
-// Field i, and its line.
+// Field i from a place on, and its line; says where the next one starts, or nothing where the walk ends.
 fn print_field<W: Write>(
     to: &mut W,
     schema: &[u8],
@@ -64,22 +39,19 @@ fn print_field<W: Write>(
     at: usize,
     i: u32,
     whole: &[u8],
-) -> io::Result<Stand> {
+) -> io::Result<Option<usize>> {
     match schema::column(schema, i) {
-        ColumnAnswer::Refused(n) => {
-            vector_fields::print_refused(to, n)?;
-            Ok(Stand { at, ends: true })
+        Err(refusal) => {
+            vector_fields::print_refused(to, refusal)?;
+            Ok(None)
         }
-        ColumnAnswer::Column(c) => {
-            let t = walk_field(row, at, i as usize, c);
-            let answer = t.answer;
-            vector_text::print_after(to, b"field ", i as u64)?;
-            let refused = vector_fields::print_answer(to, answer, whole)?;
-            print_place(to, t.at)?;
-            Ok(Stand {
-                at: t.at,
-                ends: refused,
-            })
+        Ok(c) => {
+            let (next, answer) = walk_field(row, at, i as usize, c);
+            let ends = answer.is_err();
+            write!(to, "field {i}")?;
+            vector_fields::print_answer(to, answer, whole)?;
+            writeln!(to, ", place {next}")?;
+            Ok(if ends { None } else { Some(next) })
         }
     }
 }
@@ -93,15 +65,12 @@ fn print_fields<W: Write>(
     from: usize,
     words: &[u8],
 ) -> io::Result<()> {
-    let mut at = Stand {
-        at: from,
-        ends: false,
-    };
+    let mut at = from;
     for i in 0..columns {
         let whole = vector_text::word(words, (i as usize) + 5);
-        at = print_field(to, schema, row, at.at, i, whole)?;
-        if at.ends {
-            return Ok(());
+        match print_field(to, schema, row, at, i, whole)? {
+            None => return Ok(()),
+            Some(next) => at = next,
         }
     }
     Ok(())
@@ -118,17 +87,14 @@ fn print_row<W: Write>(
     if 64 < columns {
         return Ok(());
     }
-    let t = walk_head(row, columns as u16);
-    let answer = t.answer;
-    match answer {
-        CountAnswer::Refused(n) => {
-            vector_fields::print_refused(to, n)?;
-            print_place(to, t.at)
+    match walk_head(row, columns as u16) {
+        (at, Err(refusal)) => {
+            vector_fields::print_refused(to, refusal)?;
+            writeln!(to, ", place {at}")
         }
-        CountAnswer::Count(n) => {
-            vector_text::print_after(to, b": columns ", n as u64)?;
-            print_place(to, t.at)?;
-            print_fields(to, schema, row, columns, t.at, words)
+        (at, Ok(n)) => {
+            writeln!(to, ": columns {n}, place {at}")?;
+            print_fields(to, schema, row, columns, at, words)
         }
     }
 }
@@ -136,21 +102,18 @@ fn print_row<W: Write>(
 // `schema S, row R, whole` and the number of each column.
 fn question<W: Write>(to: &mut W, words: &[u8], schema: &[u8], row: &[u8]) -> io::Result<()> {
     match schema::check(schema) {
-        CountAnswer::Refused(n) => {
-            vector_fields::print_refused(to, n)?;
-            vector_text::print(to, b"\n")
+        Err(refusal) => {
+            vector_fields::print_refused(to, refusal)?;
+            writeln!(to)
         }
-        CountAnswer::Count(n) => print_row(to, schema, row, n, words),
+        Ok(columns) => print_row(to, schema, row, columns, words),
     }
 }
 
-// A line that starts with # is printed; any other is a name, a colon and a question.
+// A name, a colon and a question.
 fn show_line<W: Write>(to: &mut W, line: &[u8]) -> io::Result<()> {
-    if vector_text::comment(to, line)? {
-        return Ok(());
-    }
     let words = vector_text::after(line, b':');
-    vector_text::print(to, vector_text::before(line, b':'))?;
+    to.write_all(vector_text::before(line, b':'))?;
     let mut schema = [0u8; 256];
     let n = vector_text::decode(vector_text::word(words, 1), &mut schema);
     let mut row = [0u8; 256];
@@ -158,17 +121,6 @@ fn show_line<W: Write>(to: &mut W, line: &[u8]) -> io::Result<()> {
     question(to, words, &schema[..n], &row[..m])
 }
 
-fn show_lines<W: Write>(to: &mut W, text: &[u8]) -> io::Result<()> {
-    for line in text.split(|c| *c == b'\n') {
-        show_line(to, line)?;
-    }
-    Ok(())
-}
-
 fn main(rt: HostRuntime) -> io::Result<()> {
-    let mut text = [0u8; 65536];
-    let n = vector_text::read_full(&mut rt.reader(), &mut text)?;
-    let mut to = io::writer(&rt);
-    show_lines(&mut to, &text[..n])?;
-    to.flush()
+    vector_text::show_lines(&mut rt.reader(), &mut io::writer(&rt), show_line)
 }

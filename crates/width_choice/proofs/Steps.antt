@@ -1,16 +1,16 @@
 -- One value more, of what is told of the values from i on.
 -- Assumes nothing.
-use mathlib.Core.Path.{◌≡◌, refl, ap}
+use mathlib.Core.Path.{◌≡◌, refl, ap, ◌∙◌}
 use mathlib.Core.Bool.{Bool, true, false}
 use mathlib.Core.List.{List, [], ◌∷◌, map}
-use Prim.Native.Nat.{ℕ, suc, ◌+◌, ◌≤◌, ◌<◌, min, max}
-use native.Mathlib.Nat.{not-suc-le-zero}
+use Prim.Native.Nat.{ℕ, suc, ◌+◌, ◌-◌, ◌≤◌, ◌<◌, min, max}
+use native.Mathlib.Nat.{not-suc-le-zero, add_comm}
 use native.Mathlib.Numerals.{add-one}
 use native.Mathlib.Omega.{arith}
 use borrow.Author.Tests.{lt-ltb, le-ltb}
 use lib.Dec.{ltb}
-use lib.ListN.{length, get_or, drop, drop_of_length-le}
-use lib.Seq.{drop-cons}
+use lib.ListN.{length, length-drop, get_or, take, drop, drop_of_length-le}
+use lib.Seq.{drop-cons, get_or-drop, take-length}
 use Rattle.common.specs.Lists.{keep}
 use Rattle.common.specs.Outcome.{pick}
 use Rattle.width_choice.specs.Over.{over}
@@ -28,6 +28,16 @@ pub least_step : (ds : List ℕ) (m i n : ℕ) → i < length ds → n ≡ min m
     → smallest n (drop (i + 1) ds) ≡ smallest m (drop i ds)
 unfolding smallest
 least_step ds m i n h e = rw (drop-one ds i h, e)
+
+-- what stands behind the first
+pub tail_is : (ds : List ℕ) → take (length ds - 1) (drop 1 ds) ≡ drop 1 ds
+tail_is ds = rw (← length-drop 1 ds) (take-length (drop 1 ds))
+
+pub tail-at : (ds : List ℕ) (i : ℕ) → get_or (take (length ds - 1) (drop 1 ds)) i 0 ≡ get_or ds (i + 1) 0
+tail-at ds i = rw (tail_is ds) (get_or-drop 1 ds i 0 ∙ ap (λ (k : ℕ). get_or ds k 0) (add_comm 1 i))
+
+pub tail-long : (ds : List ℕ) → length (take (length ds - 1) (drop 1 ds)) ≡ length ds - 1
+tail-long ds = rw (tail_is ds) (length-drop 1 ds)
 
 pub least-end : (ds : List ℕ) (m i : ℕ) → length ds ≤ i → smallest m (drop i ds) ≡ m
 unfolding smallest

@@ -20,12 +20,10 @@ pub fn widths_of(ds: &[u8], m: u8, ws: &mut [u8]) -> usize
     requires { (length ds.now ≤ length ws.old) × ((i : ℕ) → i < length ds.now → m ≤ get_or ds.now i 0) }
     ensures { (result ≡ length ds.now) × (ws.new ≡ written ws.old 0 (map width (map (λ d. d - m) ds.now))) }
 {
-    let mut i: usize = 0;
-    while i < ds.len() {
-        ws[i] = width_of(ds[i] - m);
-        i += 1;
+    for (i, &d) in ds.iter().enumerate() {
+        ws[i] = width_of(d - m);
     }
-    i
+    ds.len()
 }
 
 // The least of the values.
@@ -34,13 +32,10 @@ pub fn least_of(ds: &[u8]) -> u8
     ensures { result ≡ least ds.now }
 {
     let mut m = ds[0];
-    let mut i: usize = 1;
-    while i < ds.len() {
-        let d = ds[i];
+    for &d in &ds[1..] {
         if d < m {
             m = d;
         }
-        i += 1;
     }
     m
 }
@@ -50,13 +45,10 @@ pub fn largest_of(ws: &[u8]) -> u8
     ensures { result ≡ largest ws.now }
 {
     let mut m: u8 = 0;
-    let mut i: usize = 0;
-    while i < ws.len() {
-        let w = ws[i];
+    for &w in ws {
         if m < w {
             m = w;
         }
-        i += 1;
     }
     m
 }
@@ -67,10 +59,8 @@ fn count_over(ds: &[u8], t: u8) -> usize
     ensures { result ≡ length (over t ds.now) }
 {
     let mut e: u8 = 0;
-    let mut i: usize = 0;
-    while i < ds.len() {
-        e += (t < ds[i]) as u8;
-        i += 1;
+    for &d in ds {
+        e += (t < d) as u8;
     }
     e as usize
 }
@@ -131,9 +121,8 @@ pub fn cheapest_at(ds: &[u8], m: u8, w: u32) -> u32
     let top = packed_size(ds.len(), w);
     let mut best: u32 = 0;
     let mut least = cost_at(ds, m, w, 0);
-    let mut b: u32 = 0;
-    while b < w {
-        let low = packed_size(ds.len(), b + 1);
+    for b in 1..=w {
+        let low = packed_size(ds.len(), b);
         // a larger width costs at least its low parts
         if least <= low {
             return best;
@@ -142,7 +131,6 @@ pub fn cheapest_at(ds: &[u8], m: u8, w: u32) -> u32
         if top < low + 2 {
             return cheaper(best, least, w, top);
         }
-        b += 1;
         let c = cost_at(ds, m, w, b);
         if c < least {
             best = b;

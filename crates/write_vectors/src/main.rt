@@ -5,36 +5,37 @@
 
 ghost use Rattle.std.specs.Prelude.{◌≤◌, length};
 
-use bitmap_list::Paged;
-use bitmap_spec::{Listing, Written};
+use bitmap_spec::Listing;
+use common::Refusal;
 use std::io;
 use std::io::Write;
 
 // Prints an answer and the output.
-fn print_written<W: Write>(to: &mut W, answer: Written, out: &[u8]) -> io::Result<()> {
+fn print_written<W: Write>(
+    to: &mut W,
+    answer: Result<usize, Refusal>,
+    out: &[u8],
+) -> io::Result<()> {
     match answer {
-        Written::Refused(n) => vector_text::print_after(to, b"refused ", n as u64)?,
-        Written::Length(n) => vector_text::print_after(to, b"length ", n as u64)?,
+        Err(refusal) => write!(to, "{refusal}: ")?,
+        Ok(length) => write!(to, "length {length}: ")?,
     }
-    vector_text::print(to, b": ")?;
     vector_text::print_bytes(to, out)?;
-    vector_text::print(to, b"\n")
+    writeln!(to)
 }
 
 // Puts the numbers of the words from word 4 on into the list, as many as it takes, and says how many.
 fn numbers(words: &[u8], list: &mut [u32]) -> usize
     ensures { result ≤ length list.new }
 {
-    let mut n: usize = 0;
-    while n < list.len() {
+    for n in 0..list.len() {
         let w = vector_text::word(words, n + 4);
-        if w.len() == 0 {
+        if w.is_empty() {
             return n;
         }
         list[n] = vector_text::small(w);
-        n += 1;
     }
-    n
+    list.len()
 }
 
 // Writes the first n numbers.
@@ -56,59 +57,33 @@ fn write<W: Write>(to: &mut W, words: &[u8], out: &mut [u8]) -> io::Result<()> {
 // Writes the set of a bitmap of up to 256 members.
 fn rewrite<W: Write>(to: &mut W, s: &[u8], out: &mut [u8]) -> io::Result<()> {
     let mut list = [0u32; 256];
-    let start = Listing {
-        place: 0,
-        finished: false,
-    };
-    match bitmap_list::page(s, start, &mut list) {
-        Paged::Refused(n) => print_written(to, Written::Refused(n), out),
-        Paged::Page { given, next } => {
-            if next.finished {
-                write_first(to, &list, given, out)
+    match bitmap_list::page(s, Listing::default(), &mut list) {
+        Err(refusal) => print_written(to, Err(refusal), out),
+        Ok(page) => {
+            if page.next.finished {
+                write_first(to, &list, page.given, out)
             } else {
-                vector_text::print(to, b"over 256 members\n")
+                writeln!(to, "over 256 members")
             }
         }
     }
 }
 
-// Combines two bitmaps.
-fn combine<W: Write>(
-    to: &mut W,
-    name: &[u8],
-    a: &[u8],
-    b: &[u8],
-    out: &mut [u8],
-) -> io::Result<()> {
-    let answer = if vector_text::starts(name, b'u') {
-        bitmap_combine::union(a, b, out)
-    } else if vector_text::starts(name, b'i') {
-        bitmap_combine::intersection(a, b, out)
-    } else if vector_text::starts(name, b'd') {
-        bitmap_combine::difference(a, b, out)
-    } else {
-        bitmap_combine::symmetric_difference(a, b, out)
+// `write, room N, set` and numbers; `rewrite, room N, bitmap B`; or the name of an operation and `room N, first A, second B`.
+fn call<W: Write>(to: &mut W, words: &[u8], a: &[u8], b: &[u8], out: &mut [u8]) -> io::Result<()> {
+    let answer = match vector_text::word(words, 0).first() {
+        Some(b'w') => return write(to, words, out),
+        Some(b'r') => return rewrite(to, a, out),
+        Some(b'u') => bitmap_combine::union(a, b, out),
+        Some(b'i') => bitmap_combine::intersection(a, b, out),
+        Some(b'd') => bitmap_combine::difference(a, b, out),
+        _ => bitmap_combine::symmetric_difference(a, b, out),
     };
     print_written(to, answer, out)
 }
 
-// `write, room N, set` and numbers; `rewrite, room N, bitmap B`; or the name of an operation and `room N, first A, second B`.
-fn call<W: Write>(to: &mut W, words: &[u8], a: &[u8], b: &[u8], out: &mut [u8]) -> io::Result<()> {
-    let name = vector_text::word(words, 0);
-    if vector_text::starts(name, b'w') {
-        return write(to, words, out);
-    }
-    if vector_text::starts(name, b'r') {
-        return rewrite(to, a, out);
-    }
-    combine(to, name, a, b, out)
-}
-
-// A line that starts with # is printed; any other is a call.
+// A call with an output of up to 256 bytes.
 fn show_line<W: Write>(to: &mut W, line: &[u8]) -> io::Result<()> {
-    if vector_text::comment(to, line)? {
-        return Ok(());
-    }
     let room = vector_text::small(vector_text::word(line, 2)) as usize;
     if 256 < room {
         return Ok(());
@@ -121,17 +96,6 @@ fn show_line<W: Write>(to: &mut W, line: &[u8]) -> io::Result<()> {
     call(to, line, &first[..n], &second[..m], &mut out[..room])
 }
 
-fn show_lines<W: Write>(to: &mut W, text: &[u8]) -> io::Result<()> {
-    for line in text.split(|c| *c == b'\n') {
-        show_line(to, line)?;
-    }
-    Ok(())
-}
-
 fn main(rt: HostRuntime) -> io::Result<()> {
-    let mut text = [0u8; 65536];
-    let n = vector_text::read_full(&mut rt.reader(), &mut text)?;
-    let mut to = io::writer(&rt);
-    show_lines(&mut to, &text[..n])?;
-    to.flush()
+    vector_text::show_lines(&mut rt.reader(), &mut io::writer(&rt), show_line)
 }

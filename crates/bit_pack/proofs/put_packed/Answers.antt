@@ -13,12 +13,12 @@ returns-then-w-eq0 c =
     nothing-packed (λ i. get_or c.args.vals.now i 0) _ c.args.w c.args.out.now c.args.at c.if-w-eq0.true
 
 pub put_groups-q-requires : goal.put_groups-q-requires
-put_groups-q-requires c =
-    (c.requires.0, omega (arith, c.requires.1), omega arith, omega (arith, c.requires.2, all-bytes c.args.vals.now c.args.w))
-
-pub overflow_add-at : goal.overflow_add-at
-overflow_add-at c =
-    omega (arith, c.ranges, c.requires.2, c.put_groups-q.ensures.0, all-bytes c.args.vals.now c.args.w)
+put_groups-q-requires c = (
+  c.requires.0,
+  omega (arith, c.requires.1),
+  omega arith,
+  omega (arith, c.requires.2, all-bytes c.args.vals.now c.args.w),
+)
 
 pub put_few-requires : goal.put_few-requires
 put_few-requires c =

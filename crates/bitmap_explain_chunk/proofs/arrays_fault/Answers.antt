@@ -5,16 +5,9 @@ use native.Mathlib.Omega.{arith}
 use Rattle.common.specs.Bytes.{ceil8}
 use Rattle.bitmap_spec.specs.Judge.{chunk_end}
 use Rattle.bitmap_spec.proofs.Parts.{prod}
-use Rattle.bitmap_explain_chunk.proofs.Telling.{not-risen, all-risen, with4, with6, with7, with7b, with8}
+use Rattle.bitmap_explain_chunk.proofs.Telling.{risen-part, not-risen, all-risen, with4, with6, with7, with7b, with8}
+use Rattle.bitmap_explain_spec.specs.Told.{numbers}
 use Rattle.bitmap_explain_chunk.proofs.arrays_fault.Goals as goal
-
-pub overflow_mul-end : goal.overflow_mul-end
-overflow_mul-end c =
-    omega (arith, prod 255 8 c.args.h.e c.args.h.b2 (omega (arith, c.requires.1.few)) (omega (arith, c.requires.1.widths)))
-
-pub overflow_add-end : goal.overflow_add-end
-overflow_add-end c =
-    omega (arith, prod 255 8 c.args.h.e c.args.h.b2 (omega (arith, c.requires.1.few)) (omega (arith, c.requires.1.widths)))
 
 pub overflow_add-end-2 : goal.overflow_add-end-2
 unfolding ceil8 chunk_end
@@ -34,35 +27,18 @@ returns-then-s-end c =
     rw c.fault_of_part.ensures
     (with4 c.args.s.now c.args.index c.args.at c.args.n c.args.h c.if-s-end.true)
 
-pub risen_at-j-requires : goal.risen_at-j-requires
-risen_at-j-requires c =
-    omega (arith, c.requires.1.third, c.if-s-end.false)
-
-pub overflow_add-h : goal.overflow_add-h
-overflow_add-h c =
-    omega (arith, c.requires.1.third, c.if-s-end.false, c.if-j-h.true)
-
 pub returns-then-j-h : goal.returns-then-j-h
 unfolding ceil8 chunk_end
 returns-then-j-h c =
     rw c.fault_of_part-then-j-h.ensures
-    (with6 c.args.s.now c.args.index c.args.at c.args.n c.args.h c.if-s-end.false _ c.risen_at-j.ensures.0
+    (with6 c.args.s.now c.args.index c.args.at c.args.n c.args.h c.if-s-end.false _ (risen-part _ _ _ _ _ _ c.requires.1.third c.risen_at-j.ensures.0)
     (not-risen c.args.n c.args.s.now c.args.h.offsets c.args.h.e _ (omega (arith, c.requires.1.third, c.if-s-end.false))
-    c.risen_at-j.ensures.0 c.if-j-h.true))
+    (risen-part _ _ _ _ _ _ c.requires.1.third c.risen_at-j.ensures.0) c.if-j-h.true))
 
 pub spare_zero-requires : goal.spare_zero-requires
 unfolding ceil8 chunk_end
 spare_zero-requires c =
     omega (arith, c.requires.1.widths, c.requires.1.some, c.requires.1.second, c.requires.1.third, c.if-s-end.false)
-
-pub overflow_mul-n : goal.overflow_mul-n
-overflow_mul-n c =
-    omega (arith, prod 256 8 c.args.n c.args.h.b1 (omega (arith, c.requires.1.some)) (omega (arith, c.requires.1.widths)))
-
-pub overflow_add-h-then-not-spare_zero : goal.overflow_add-h-then-not-spare_zero
-unfolding ceil8 chunk_end
-overflow_add-h-then-not-spare_zero c =
-    omega (arith, c.requires.1.second, c.requires.1.third, c.if-s-end.false)
 
 pub returns-then-not-spare_zero : goal.returns-then-not-spare_zero
 unfolding ceil8 chunk_end
@@ -70,22 +46,8 @@ returns-then-not-spare_zero c =
     rw c.fault_of_part-then-not-spare_zero.ensures
     (with7 c.args.s.now c.args.index c.args.at c.args.n c.args.h c.if-s-end.false
     (all-risen c.args.n c.args.s.now c.args.h.offsets c.args.h.e _ (omega (arith, c.requires.1.third, c.if-s-end.false))
-    c.risen_at-j.ensures.0 c.if-j-h.false)
+    (risen-part _ _ _ _ _ _ c.requires.1.third c.risen_at-j.ensures.0) c.if-j-h.false)
     (sym c.spare_zero.ensures ∙ c.if-not-spare_zero.true))
-
-pub spare_zero-requires-2 : goal.spare_zero-requires-2
-unfolding ceil8 chunk_end
-spare_zero-requires-2 c =
-    omega (arith, c.requires.1.widths, c.requires.1.few, c.requires.1.third, c.if-s-end.false)
-
-pub overflow_mul-h : goal.overflow_mul-h
-overflow_mul-h c =
-    omega (arith, prod 255 8 c.args.h.e c.args.h.b2 (omega (arith, c.requires.1.few)) (omega (arith, c.requires.1.widths)))
-
-pub overflow_add-h-then-not-spare_zero-2 : goal.overflow_add-h-then-not-spare_zero-2
-unfolding ceil8 chunk_end
-overflow_add-h-then-not-spare_zero-2 c =
-    omega (arith, c.requires.1.third, c.if-s-end.false, c.well_formed)
 
 pub returns-then-not-spare_zero-2 : goal.returns-then-not-spare_zero-2
 unfolding ceil8 chunk_end
@@ -93,7 +55,7 @@ returns-then-not-spare_zero-2 c =
     rw c.fault_of_part-then-not-spare_zero-2.ensures
     (with7b c.args.s.now c.args.index c.args.at c.args.n c.args.h c.if-s-end.false
     (all-risen c.args.n c.args.s.now c.args.h.offsets c.args.h.e _ (omega (arith, c.requires.1.third, c.if-s-end.false))
-    c.risen_at-j.ensures.0 c.if-j-h.false)
+    (risen-part _ _ _ _ _ _ c.requires.1.third c.risen_at-j.ensures.0) c.if-j-h.false)
     (sym c.spare_zero.ensures ∙ c.if-not-spare_zero.false)
     (sym c.spare_zero-2.ensures ∙ c.if-not-spare_zero-2.true))
 
@@ -104,14 +66,14 @@ first_over-v-requires c = (
   c.requires.1,
   c.if-s-end.false,
   all-risen c.args.n c.args.s.now c.args.h.offsets c.args.h.e _ (omega (arith, c.requires.1.third, c.if-s-end.false))
-      c.risen_at-j.ensures.0 c.if-j-h.false,
+      (risen-part _ _ _ _ _ _ c.requires.1.third c.risen_at-j.ensures.0) c.if-j-h.false,
 )
 
 pub returns : goal.returns
-unfolding ceil8 chunk_end
+unfolding ceil8 chunk_end numbers
 returns c =
     with8 c.args.s.now c.args.index c.args.at c.args.n c.args.h c.if-s-end.false
     (all-risen c.args.n c.args.s.now c.args.h.offsets c.args.h.e _ (omega (arith, c.requires.1.third, c.if-s-end.false))
-    c.risen_at-j.ensures.0 c.if-j-h.false)
+    (risen-part _ _ _ _ _ _ c.requires.1.third c.risen_at-j.ensures.0) c.if-j-h.false)
     (sym c.spare_zero.ensures ∙ c.if-not-spare_zero.false) _ c.first_over-v.ensures
     (sym c.spare_zero-2.ensures ∙ c.if-not-spare_zero-2.false)

@@ -1,30 +1,11 @@
 -- The exceptions are met in the order of their offsets, so exception j alone can be descriptor i's.
 -- Assumes nothing.
 use mathlib.Core.Path.{sym}
-use native.Mathlib.Nat.{lt_of_lt_of_le}
 use native.Mathlib.Omega.{arith}
-use lib.Pow.{pow_mono}
-use Rattle.bitmap_spec.proofs.Parts.{within}
 use Rattle.chunk_read.specs.Post.{primary_of}
 use Rattle.chunk_read.proofs.Patching.{shifted}
 use Rattle.bitmap_explain_chunk.proofs.Excepting.{own_is, none_is}
 use Rattle.bitmap_explain_chunk.proofs.descriptor_at.Goals as goal
-
-pub overflow_add-v : goal.overflow_add-v
-overflow_add-v c = omega (arith, lt_of_lt_of_le c.packed_value.ensures.1 (pow_mono {j = 8} (omega arith)))
-
-pub packed_value-requires-then-owns : goal.packed_value-requires-then-owns
-packed_value-requires-then-owns c =
-    let hit = c.owns.ensures.yes c.if-owns.true in
-    omega (arith, within c.args.h.e c.args.j c.args.h.b2 hit.0)
-
-pub overflow_add-result : goal.overflow_add-result
-overflow_add-result c =
-    omega (
-      arith,
-      lt_of_lt_of_le c.packed_value.ensures.1 (pow_mono {j = 8} (omega arith)),
-      shifted c.args.h.b1 c.args.h.b2 _ (omega arith) c.packed_value-then-owns.ensures.1,
-    )
 
 pub returns-then-owns : goal.returns-then-owns
 unfolding primary_of

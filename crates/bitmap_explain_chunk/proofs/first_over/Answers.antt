@@ -1,7 +1,6 @@
 -- Rest invariant: the first over 63 of those left is the first of all; j is the first exception that is left.
 -- Assumes nothing.
 use mathlib.Core.Path.{sym, ◌∙◌}
-use Prim.Native.Nat.{◌-◌}
 use native.Mathlib.Omega.{arith}
 use native.Mathlib.Nat.{sub-zero}
 use Rattle.common.specs.Bytes.{ceil8}
@@ -41,12 +40,6 @@ pub owns-requires : goal.owns-requires
 unfolding chunk_end
 owns-requires c =
     omega (arith, c.requires.1.third)
-
-pub overflow_add-j : goal.overflow_add-j
-overflow_add-j c =
-    let next = reach-next c.args.s.now c.args.h c.loop-i.i c.loop-i.j c.loop-i.invariant.2 c.owns.result
-    c.owns.ensures in
-    omega (arith, next.within, c.requires.1.few)
 
 pub loop-i-preserved : goal.loop-i-preserved
 loop-i-preserved c = (

@@ -8,9 +8,9 @@ use Rattle.bitmap_explain_spec.specs.Explain.{explained_chunks}
 use Rattle.bitmap_explain_walk.proofs.chunks_fault.Given as goal
 
 abbrev pub invariant-loop-i : goal.invariant-loop-i
-invariant-loop-i l =
-    (l.i ≤ l.whole) × (l.at ≤ length l.s) × (length l.out ≡ length l.initial.out) ×
-    (explained_chunks l.s l.i l.at (take (l.i * 256) l.out) (l.whole - l.i) l.rest ≡ explained_chunks l.s 0 6 [] l.whole l.rest)
-
-abbrev pub decreases-loop-i : goal.decreases-loop-i
-decreases-loop-i l = l.whole - l.i
+invariant-loop-i l = record {
+  within : l.at ≤ length l.s;
+  told :
+      explained_chunks l.s l.i l.at (take (l.i * 256) l.out) (l.whole - l.i) l.rest
+      ≡ explained_chunks l.s 0 6 [] l.whole l.rest;
+}

@@ -2,7 +2,6 @@
 -- Assumes nothing.
 use lib.ListN.{length}
 use mathlib.Core.Path.{ap, ◌∙◌}
-use Prim.Native.Nat.{◌-◌}
 use native.Mathlib.Omega.{arith}
 use Rattle.judge.proofs.Walking.{size-sparse, size-dense}
 use Rattle.bitmap_read.proofs.Containers.{sparse-count, dense-is}

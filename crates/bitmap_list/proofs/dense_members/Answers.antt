@@ -1,7 +1,7 @@
 -- Byte by byte: after q bytes the set ones of q * 8 bits stand first in out.
 -- Assumes nothing.
-use mathlib.Core.Path.{◌≡◌, refl, ◌∙◌}
-use Prim.Native.Nat.{◌+◌, ◌-◌, ◌*◌}
+use mathlib.Core.Path.{refl}
+use Prim.Native.Nat.{◌*◌}
 use native.Mathlib.Omega.{arith}
 use Rattle.bitmap_list.proofs.Decoding.{spread_none, spread-all}
 use Rattle.bitmap_list.proofs.dense_members.Goals as goal
@@ -9,18 +9,6 @@ use Rattle.bitmap_list.proofs.dense_members.Goals as goal
 pub loop-q-init : goal.loop-q-init
 loop-q-init c =
     (omega arith, refl, spread_none c.args.s.now c.args.at c.args.out.now c.requires.1)
-
-pub byte_members-n-requires : goal.byte_members-n-requires
-byte_members-n-requires c =
-    (c.requires.0, c.loop-q-test.true, c.loop-q.invariant.2)
-
-pub loop-q-preserved : goal.loop-q-preserved
-loop-q-preserved c =
-    let e : (c.loop-q.q + 1) * 8 ≡ c.loop-q.q * 8 + 8 = omega arith in
-    (omega arith, c.byte_members-n.auto.out ∙ c.loop-q.invariant.1, rw e c.byte_members-n.ensures)
-
-pub shape_of-out : goal.shape_of-out
-shape_of-out c = c.loop-q.invariant.1
 
 pub returns : goal.returns
 returns c =

@@ -1,6 +1,11 @@
--- Either array has room for the descriptors that the header announces.
+-- The set's cardinality is the number of its members.
 -- Assumes nothing.
+use lib.ListN.{length}
+use Rattle.std.proofs.Common.{rules}
+use Rattle.bitmap_spec.specs.Ask.{check}
+use Rattle.judge.proofs.Asking.{asked}
 use Rattle.bitmap_read.proofs.check.Goals as goal
 
-pub check_in-requires : goal.check_in-requires
-check_in-requires c = λ long few. c.is_small.ensures c.if-is_small.true long
+pub returns : goal.returns
+unfolding check
+returns c = asked _ length _ _ (λ set a h. let k = set.counts in search rules) c.ask.ensures

@@ -1,7 +1,6 @@
 -- Sparse: as many as bytes. Dense: the set bits.
 -- Assumes nothing.
 use mathlib.Core.Path.{ap, ◌∙◌}
-use Prim.Native.Nat.{◌-◌}
 use native.Mathlib.Omega.{arith}
 use lib.ListN.{length}
 use Rattle.judge.proofs.Walking.{size-sparse, size-dense}

@@ -1,6 +1,11 @@
--- Either array has room for the descriptors that the header announces.
+-- Membership in the set.
 -- Assumes nothing.
+use Rattle.common.specs.Lists.{mem}
+use Rattle.std.proofs.Common.{rules}
+use Rattle.bitmap_spec.specs.Ask.{probe}
+use Rattle.judge.proofs.Asking.{asked}
 use Rattle.bitmap_read.proofs.probe.Goals as goal
 
-pub probe_in-requires : goal.probe_in-requires
-probe_in-requires c = λ long few. c.is_small.ensures c.if-is_small.true long
+pub returns : goal.returns
+unfolding probe
+returns c = asked _ (mem c.args.position) _ _ (λ set a h. search rules) c.ask.ensures

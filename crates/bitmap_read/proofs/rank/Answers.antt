@@ -1,6 +1,10 @@
--- Either array has room for the descriptors that the header announces.
+-- The count in the set.
 -- Assumes nothing.
+use Rattle.std.proofs.Common.{rules}
+use Rattle.bitmap_spec.specs.Ask.{rank, below}
+use Rattle.judge.proofs.Asking.{asked}
 use Rattle.bitmap_read.proofs.rank.Goals as goal
 
-pub rank_in-requires : goal.rank_in-requires
-rank_in-requires c = λ long few. c.is_small.ensures c.if-is_small.true long
+pub returns : goal.returns
+unfolding rank
+returns c = asked _ (below c.args.position) _ _ (λ set a h. search rules) c.ask.ensures

@@ -4,7 +4,7 @@ use lib.ListN.{length-set}
 use Rattle.bitmap_rewrite.proofs.Turns.{Level, level-low, level-high}
 use mathlib.Core.List.{List}
 use mathlib.Core.Path.{subst, refl, sym, ap, ◌∙◌}
-use Prim.Native.Nat.{ℕ, ◌+◌, ◌-◌}
+use Prim.Native.Nat.{ℕ, ◌+◌}
 use native.Mathlib.Omega.{arith}
 use lib.ListN.{length}
 use Rattle.bitmap_rewrite.proofs.level.Goals as goal

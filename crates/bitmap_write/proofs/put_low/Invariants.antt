@@ -9,7 +9,5 @@ use lib.ListN.{length}
 use Rattle.bitmap_write.proofs.put_low.Given as goal
 
 abbrev pub invariant-loop-t : goal.invariant-loop-t
-invariant-loop-t l = (l.n ≡ l.j - l.i) × (l.t ≤ l.n) × (length l.out ≡ length l.initial.out) × (l.out ≡ written l.initial.out l.at (take l.t (run l.ps l.i l.j)))
-
-abbrev pub decreases-loop-t : goal.decreases-loop-t
-decreases-loop-t l = l.n - l.t
+invariant-loop-t l = (l.n ≡ l.j - l.i) × (l.t ≤ l.n) × (length l.out ≡ length l.initial.out)
+    × (l.out ≡ written l.initial.out l.at (take l.t (run l.ps l.i l.j)))

@@ -9,7 +9,6 @@ use Prim.Native.Nat.{◌-◌, ◌*◌, ◌≤◌}
 use Rattle.bitmap_write.proofs.put_runs.Given as goal
 
 abbrev pub invariant-loop-k : goal.invariant-loop-k
-invariant-loop-k l = (l.k ≤ l.n) × Below l.ps (l.k * 256) l.i × Along l.initial.out l.out l.at l.t (write_containers (map (cut l.ps) (from l.k (l.n - l.k)))) (write_containers (map (cut l.ps) (from 0 l.n)))
-
-abbrev pub decreases-loop-k : goal.decreases-loop-k
-decreases-loop-k l = l.n - l.k
+invariant-loop-k l = (l.k ≤ l.n) × Below l.ps (l.k * 256) l.i
+    × Along l.initial.out l.out l.at l.t (write_containers (map (cut l.ps) (from l.k (l.n - l.k))))
+    (write_containers (map (cut l.ps) (from 0 l.n)))

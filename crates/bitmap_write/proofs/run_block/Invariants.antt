@@ -10,6 +10,3 @@ use Rattle.bitmap_write.proofs.run_block.Given as goal
 
 abbrev pub invariant-loop-t : goal.invariant-loop-t
 invariant-loop-t l = (l.n ≡ l.j - l.i) × (l.t ≤ l.n) × Shows l.b (λ p. mem p (take l.t (run l.ps l.i l.j)))
-
-abbrev pub decreases-loop-t : goal.decreases-loop-t
-decreases-loop-t l = l.n - l.t

@@ -4,7 +4,6 @@ use mathlib.Core.Bool.{true}
 use Rattle.common.specs.Lists.{rising}
 use Rattle.bitmap_write.proofs.Writing.{described, refuse12, go_on}
 use mathlib.Core.Path.{◌≡◌, sym, ◌∙◌}
-use Prim.Native.Nat.{◌-◌}
 use native.Mathlib.Omega.{arith}
 use borrow.Author.Rules.{rules}
 use Rattle.bitmap_write.proofs.write_list.Goals as goal
@@ -19,10 +18,15 @@ pub slice_bounds-ds-end : goal.slice_bounds-ds-end
 slice_bounds-ds-end c = omega (arith, c.describe-n.ensures.1, c.describe-n.auto.ds)
 
 pub slice_bounds-put_form-end : goal.slice_bounds-put_form-end
-slice_bounds-put_form-end c = let up : rising 2097152 0 c.args.ps.now ≡ true = sym c.rises.ensures ∙ c.if-not-rises.false in let d = described c.args.ps.now _ _ c.describe-n.result up c.describe-n.ensures.0 c.describe-n.ensures.2 in c.describe-n.ensures.0 ∙ sym d.1.count
+slice_bounds-put_form-end c = let up : rising 2097152 0 c.args.ps.now ≡ true =
+    sym c.rises.ensures ∙ c.if-not-rises.false in let d =
+    described c.args.ps.now _ _ c.describe-n.result up c.describe-n.ensures.0 c.describe-n.ensures.2 in
+    c.describe-n.ensures.0 ∙ sym d.1.count
 
 pub put_form-requires : goal.put_form-requires
-put_form-requires c = let up : rising 2097152 0 c.args.ps.now ≡ true = sym c.rises.ensures ∙ c.if-not-rises.false in (described c.args.ps.now _ _ c.describe-n.result up c.describe-n.ensures.0 c.describe-n.ensures.2).1
+put_form-requires c = let up : rising 2097152 0 c.args.ps.now ≡ true = sym c.rises.ensures ∙ c.if-not-rises.false in
+    (described c.args.ps.now _ _ c.describe-n.result up c.describe-n.ensures.0 c.describe-n.ensures.2).1
 
 pub returns : goal.returns
-returns c = let up : rising 2097152 0 c.args.ps.now ≡ true = sym c.rises.ensures ∙ c.if-not-rises.false in go_on c.args.ps.now c.args.out.now _ c.put_form.result up c.put_form.ensures
+returns c = let up : rising 2097152 0 c.args.ps.now ≡ true = sym c.rises.ensures ∙ c.if-not-rises.false in
+    go_on c.args.ps.now c.args.out.now _ c.put_form.result up c.put_form.ensures

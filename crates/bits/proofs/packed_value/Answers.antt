@@ -1,12 +1,11 @@
 -- The bits of a value lie in one byte or in two next to each other (the law value-window, for any width).
 -- Assumes nothing.
 use mathlib.Core.Path.{refl, sym, ◌∙◌}
-use Prim.Native.Nat.{◌+◌, ◌-◌, ◌*◌, ◌/◌, ◌≤◌, ◌<◌}
+use Prim.Native.Nat.{◌+◌, ◌*◌, ◌/◌}
 use native.Mathlib.Omega.{arith}
 use lib.ListN.{get_or}
 use lib.Pow.{pow_pos}
 use lib.Dec.{lit<}
-use native.Mathlib.Nat.{mul-le-mul}
 use Rattle.bitmap_spec.proofs.Window.{value-window, value_none, value-lt}
 use Rattle.bits.proofs.packed_value.Goals as goal
 
@@ -14,12 +13,6 @@ pub returns-then-w-eq0 : goal.returns-then-w-eq0
 returns-then-w-eq0 c =
     let a = c.args in
     (sym (value_none a.s.now a.at a.w a.i c.if-w-eq0.true), pow_pos a.w)
-
-pub overflow_mul-p : goal.overflow_mul-p
-overflow_mul-p c =
-    let a = c.args in
-    let l : a.i * a.w ≤ 255 * 8 = mul-le-mul {n₂ = 255} {m₂ = 8} (omega arith) (omega arith) in
-    omega arith
 
 pub returns-then-r-w-le8 : goal.returns-then-r-w-le8
 returns-then-r-w-le8 c =

@@ -4,7 +4,7 @@ use borrow.Author.Count.{below_none, below_more}
 use borrow.Author.Rules.{rules}
 use mathlib.Core.Path.{◌≡◌, refl, sym, ap, ◌∙◌}
 use mathlib.Core.List.{List}
-use Prim.Native.Nat.{ℕ, ◌+◌, ◌-◌, ◌<◌}
+use Prim.Native.Nat.{ℕ, ◌+◌, ◌<◌}
 use native.Mathlib.Omega.{arith}
 use mir.Syntax.{w8}
 use mir.Val.{Fits}
@@ -73,9 +73,11 @@ loop-i-preserved c = (
   omega (arith, c.loop-i-test.true),
   omega (arith, ones-le 8 _ (small c), c.loop-i.invariant.1),
   simp length-set c.loop-i.invariant.2,
-  ones-turn c.args.p c.args.q c.args.w c.args.a.now c.args.at c.args.b.now c.args.bt 16 c.loop-i.i _ c.loop-i.ones (here c) (small c)
+  ones-turn c.args.p c.args.q c.args.w c.args.a.now c.args.at c.args.b.now c.args.bt 16 c.loop-i.i _ c.loop-i.ones
+      (here c) (small c)
       c.loop-i.invariant.3,
-  set_more (λ k. get_or (joined_bytes c.args.p c.args.q c.args.w c.args.a.now c.args.at c.args.b.now c.args.bt 16) k 0) c.loop-i.v
+  set_more (λ k. get_or (joined_bytes c.args.p c.args.q c.args.w c.args.a.now c.args.at c.args.b.now c.args.bt 16) k 0)
+      c.loop-i.v
       c.loop-i.i _ (omega (arith, c.loop-i.invariant.2, c.loop-i-test.true)) (here c) c.loop-i.invariant.4,
   below_more _ _ c.loop-i.invariant.5 (rw (← here c) (small c)),
 )
@@ -110,7 +112,8 @@ returns c =
       omega (arith, c.loop-i.invariant.1),
       c.loop-j.invariant.2 ∙ ap (λ (z : List ℕ). written c.args.out.now c.args.to z)
           (take_all c.loop-j.j c.loop-i.v (omega (arith, c.loop-i.invariant.2, c.loop-j-test.false))
-          ∙ joined_is c.args.p c.args.q c.args.w c.args.a.now c.args.at c.args.b.now c.args.bt c.loop-i.v c.loop-i.invariant.2
+          ∙ joined_is c.args.p c.args.q c.args.w c.args.a.now c.args.at c.args.b.now c.args.bt c.loop-i.v
+          c.loop-i.invariant.2
           (λ k h. c.loop-i.invariant.4 k (omega arith))),
       λ k h. c.loop-i.invariant.5 k (omega arith),
     )

@@ -18,9 +18,6 @@ invariant-loop-i l =
     × ((k : ℕ) → k < l.i → get_or l.v k 0 ≡ get_or (joined_bytes l.p l.q l.w l.a l.at l.b l.bt 16) k 0)
     × ((k : ℕ) → k < l.i → get_or (joined_bytes l.p l.q l.w l.a l.at l.b l.bt 16) k 0 < 256)
 
-abbrev pub decreases-loop-i : goal.decreases-loop-i
-decreases-loop-i l = 16 - l.i
-
 abbrev pub invariant-loop-j : goal.invariant-loop-j
 invariant-loop-j l =
     (l.j ≤ 16) × (length l.out ≡ length l.initial.out) × (l.out ≡ written l.initial.out l.to (take l.j l.v))

@@ -4,7 +4,7 @@ use mathlib.Core.List.{List}
 use mir.Val.{Fits}
 use mir.Syntax.{w8}
 use Rattle.bitmap_spec.specs.Output.{written}
-use Rattle.blocks.proofs.Blocks.{block-sparse, block-dense}
+use Rattle.blocks.proofs.Blocks.{block-sparse, block-dense, put-part}
 use mathlib.Core.Path.{◌≡◌, sym, ap, ◌∙◌}
 use Prim.Native.Nat.{ℕ}
 use native.Mathlib.Omega.{arith}
@@ -24,8 +24,8 @@ returns-then-d-lt32 c =
       c.put_members.ensures.1 ∙ ap (λ (l : List ℕ). written c.args.out.now c.args.at l) e,
     )
 
-pub put_bytes-requires : goal.put_bytes-requires
-put_bytes-requires c =
+pub slice_bounds-copy_from_slice-end : goal.slice_bounds-copy_from_slice-end
+slice_bounds-copy_from_slice-end c =
     let n : length c.args.b ≡ 32 = search rules in
     let x : (k : ℕ) → Fits w8 (get_or c.args.b k 0) = λ k. search rules in
     let e = block-dense c.args.b c.args.d c.requires.0 c.if-d-lt32.false n (λ k. (x k).fits) in
@@ -36,6 +36,6 @@ returns c =
     let n : length c.args.b ≡ 32 = search rules in
     let x : (k : ℕ) → Fits w8 (get_or c.args.b k 0) = λ k. search rules in
     let e = block-dense c.args.b c.args.d c.requires.0 c.if-d-lt32.false n (λ k. (x k).fits) in (
-      c.put_bytes.ensures.0 ∙ sym n ∙ ap length e,
-      c.put_bytes.ensures.1 ∙ ap (λ (l : List ℕ). written c.args.out.now c.args.at l) e,
+      sym n ∙ ap length e,
+      put-part _ _ _ c.args.at _ (c.copy_from_slice.ensures.after ∙ e) (omega (arith, n, ap length e)),
     )

@@ -8,7 +8,5 @@ use Rattle.blocks.proofs.put_members.Given as goal
 
 abbrev pub invariant-loop-q : goal.invariant-loop-q
 invariant-loop-q l =
-    (l.q ≤ 4) × Along l.initial.out l.out l.at l.n (keep (is_on l.ws) (from (l.q * 64) (256 - l.q * 64))) (word_members l.ws)
-
-abbrev pub decreases-loop-q : goal.decreases-loop-q
-decreases-loop-q l = 4 - l.q
+    (l.q ≤ 4) × Along l.initial.out l.out l.at l.n (keep (is_on l.ws) (from (l.q * 64) (256 - l.q * 64)))
+    (word_members l.ws)

@@ -2,7 +2,7 @@
 -- Assumes nothing.
 use Rattle.blocks.proofs.Members.{word-start, word_more, word_fits}
 use mathlib.Core.Path.{◌≡◌}
-use Prim.Native.Nat.{◌+◌, ◌-◌}
+use Prim.Native.Nat.{◌+◌}
 use native.Mathlib.Omega.{arith}
 use Rattle.blocks.proofs.word.Goals as goal
 

@@ -1,19 +1,16 @@
--- The ones of the four joined words are the members in one (the law four-xor). Each word has at most 64.
+-- The ones of the four joined words are the members in one (four-xor).
 -- Assumes nothing.
+use mathlib.Core.Path.{◌≡◌, ◌∙◌}
 use native.Mathlib.Omega.{arith}
-use Rattle.blocks.proofs.Counts.{four-xor}
+use borrow.Author.Rules.{rules}
+use lib.Bits.{bit_xor}
+use Rattle.blocks.specs.Block.{Counted}
+use Rattle.blocks.proofs.Counts.{counted, four-xor}
 use Rattle.blocks.proofs.xor_count.Goals as goal
 
 pub returns : goal.returns
 returns c =
-    let all = four-xor c.args.a.now c.args.at c.args.b.now c.args.bt
-    (λ k. omega (arith, c.type_inv.a k))
-    (λ k. omega (arith, c.type_inv.b k)) in
-    omega (
-      arith,
-      all,
-      c.xor_ones.ensures.0,
-      c.xor_ones-2.ensures.0,
-      c.xor_ones-3.ensures.0,
-      c.xor_ones-4.ensures.0,
-    )
+    let made : Counted (λ x y r. r ≡ bit_xor x y) c.args.a.now c.args.at c.args.b.now c.args.bt c.count_by.result =
+    search rules in
+    counted (λ x y. bit_xor x y) _ _ _ _ _ made
+    ∙ four-xor _ _ _ _ (λ k. omega (arith, c.type_inv.a k)) (λ k. omega (arith, c.type_inv.b k))

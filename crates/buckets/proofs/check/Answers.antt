@@ -1,16 +1,25 @@
--- A refusal of the schema, then of the bucket; else 0. Assumes nothing.
-use Rattle.row_laws.proofs.Read.{read_found}
-use Rattle.buckets.proofs.Answers.{check-unread, check-bad, check-good}
+-- A refusal of the schema, then of the bucket; else it is sound. Assumes nothing.
+use Rattle.std.proofs.lemmas.Result.{err_from_is_err_and}
+use Rattle.row_laws.proofs.Read.{read-refused, read_found}
+use Rattle.bucket_parts.proofs.Bodies.{known-columns}
+use Rattle.bucket_spec.specs.Bucket.{bucket_refusal}
 use Rattle.buckets.proofs.check.Goals as goal
 
-pub returns-then-refused-ne0 : goal.returns-then-refused-ne0
-returns-then-refused-ne0 c = rw (check-unread c.args.schema_bytes.now c.args.rows c.args.bucket.now _ c.read-read.ensures c.if-refused-ne0.true)
+pub returns-in_err-schema : goal.returns-in_err-schema
+unfolding bucket_refusal
+returns-in_err-schema c =
+    let r = err_from_is_err_and c.from_residual.result c.from_residual.ensures.1 in
+    rw (r.1, r.2, read-refused _ _ c.in_err-schema.ensures)
 
-pub judge-judged-requires : goal.judge-judged-requires
-judge-judged-requires c = let k = read_found _ _ c.read-read.ensures c.if-refused-ne0.false in (k.most, k.room)
+pub judge-requires : goal.judge-requires
+judge-requires c = known-columns (read_found _ _ c.in_ok-schema.ensures)
 
-pub returns-then-judged : goal.returns-then-judged
-returns-then-judged c = rw (check-good c.args.schema_bytes.now c.args.rows c.args.bucket.now _ c.read-read.ensures c.if-refused-ne0.false c.judge-judged.result c.judge-judged.ensures c.if-judged.true)
+pub returns-in_err-judge : goal.returns-in_err-judge
+unfolding bucket_refusal
+returns-in_err-judge c =
+    let r = err_from_is_err_and c.from_residual-in_err-judge.result c.from_residual-in_err-judge.ensures.1 in
+    rw (r.1, r.2, (read_found _ _ c.in_ok-schema.ensures).is, ← c.in_err-judge.ensures.says)
 
 pub returns : goal.returns
-returns c = rw (check-bad c.args.schema_bytes.now c.args.rows c.args.bucket.now _ c.read-read.ensures c.if-refused-ne0.false c.judge-judged.result c.judge-judged.ensures c.if-judged.false)
+unfolding bucket_refusal
+returns c = rw ((read_found _ _ c.in_ok-schema.ensures).is, ← c.in_ok-judge.ensures.says)

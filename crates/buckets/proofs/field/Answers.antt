@@ -1,20 +1,40 @@
 -- A refusal of the schema, then of the bucket; else the answer from its pieces. Assumes nothing.
-use Rattle.row_laws.proofs.Read.{read_found}
-use Rattle.buckets.proofs.Answers.{field-unread, field-bad, field-good}
-use mathlib.Core.Path.{sym, ◌∙◌}
+use mathlib.Core.Path.{refl}
+use Rattle.std.proofs.lemmas.Result.{err_from_is_err_and}
+use Rattle.row_laws.proofs.Read.{read-refused, read_found}
+use Rattle.bucket_parts.proofs.Bodies.{known-columns}
+use Rattle.bucket_spec.specs.Bucket.{bucket_field}
 use Rattle.buckets.proofs.field.Goals as goal
 
-pub returns-then-refused-ne0 : goal.returns-then-refused-ne0
-returns-then-refused-ne0 c = sym (field-unread c.args.schema_bytes.now c.args.rows c.args.bucket.now _ c.read-read.ensures c.args.row c.args.column c.if-refused-ne0.true)
+pub returns-in_err-schema : goal.returns-in_err-schema
+unfolding bucket_field
+returns-in_err-schema c =
+    let r = err_from_is_err_and c.from_residual.result c.from_residual.ensures.1 in
+    rw (r.1, r.2, read-refused _ _ c.in_err-schema.ensures)
 
-pub judge-judged-requires : goal.judge-judged-requires
-judge-judged-requires c = let k = read_found _ _ c.read-read.ensures c.if-refused-ne0.false in (k.most, k.room)
+pub judge-requires : goal.judge-requires
+judge-requires c = known-columns (read_found _ _ c.in_ok-schema.ensures)
+
+pub returns-in_err-judged : goal.returns-in_err-judged
+unfolding bucket_field
+returns-in_err-judged c =
+    let r = err_from_is_err_and c.from_residual-in_err-judged.result c.from_residual-in_err-judged.ensures.1 in
+    rw (r.1, r.2, (read_found _ _ c.in_ok-schema.ensures).is, ← c.in_err-judged.ensures.says)
 
 pub answer_of-requires : goal.answer_of-requires
-answer_of-requires c = let k = read_found _ _ c.read-read.ensures c.if-refused-ne0.false in (k.most, k.room, c.judge-judged.ensures.few c.if-judged.true, c.judge-judged.ensures.framed c.if-judged.true)
-
-pub returns-then-judged : goal.returns-then-judged
-returns-then-judged c = c.answer_of.ensures ∙ sym (field-good c.args.schema_bytes.now c.args.rows c.args.bucket.now _ c.read-read.ensures c.if-refused-ne0.false c.judge-judged.result c.judge-judged.ensures c.if-judged.true c.args.row c.args.column)
+answer_of-requires c = (
+  known-columns (read_found _ _ c.in_ok-schema.ensures),
+  record { rows = refl; has = (c.in_ok-judged.ensures.framed _ refl).has },
+)
 
 pub returns : goal.returns
-returns c = sym (field-bad c.args.schema_bytes.now c.args.rows c.args.bucket.now _ c.read-read.ensures c.if-refused-ne0.false c.judge-judged.result c.judge-judged.ensures c.if-judged.false c.args.row c.args.column)
+unfolding bucket_field
+returns c =
+    let known = read_found _ _ c.in_ok-schema.ensures in
+    rw (
+      known.is,
+      ← c.in_ok-judged.ensures.says,
+      known.count,
+      ← (c.in_ok-judged.ensures.framed _ refl).rows,
+    )
+    c.answer_of.ensures

@@ -6,6 +6,3 @@ pub part-requires : goal.part-requires
 part-requires c =
     place-within c.args.schema_bytes.now c.args.rows c.args.bucket.now c.args.row c.args.column
     c.field.result c.field.ensures
-
-pub returns : goal.returns
-returns c = rw (← c.field.ensures) c.part.ensures

@@ -9,17 +9,17 @@ use Rattle.c_list.proofs.block_page.Goals as goal
 pub overflow_add-place : goal.overflow_add-place
 overflow_add-place c =
     let fits = place-fits _ _ _ _ _ c.page.ensures (block_within c.args.schema.now c.args.block.now
-    c.args.place.now (length c.args.list.now)) _ _ c.in-Page.is in
+    c.args.place.now (length c.args.list.now)) _ _ c.in-Ok.is in
     omega (arith, fits)
 
-pub returns-in-Refused : goal.returns-in-Refused
-returns-in-Refused c =
+pub returns-in-Err : goal.returns-in-Err
+returns-in-Err c =
     let m : Listing = record
     { list = c.args.list.now; place = c.args.place.now; given = c.args.given.now; rows = c.args.rows.now } in
-    refused-page _ m _ _ c.page.ensures _ c.in-Refused.is
+    rw c.into.ensures (refused-page _ m _ _ c.page.ensures _ c.in-Err.is)
 
-pub returns-in-Page : goal.returns-in-Page
-returns-in-Page c =
+pub returns-in-Ok : goal.returns-in-Ok
+returns-in-Ok c =
     let m : Listing = record
     { list = c.args.list.now; place = c.args.place.now; given = c.args.given.now; rows = c.args.rows.now } in
-    given-page _ m _ _ c.page.ensures _ _ c.in-Page.is
+    given-page _ m _ _ c.page.ensures _ _ c.in-Ok.is

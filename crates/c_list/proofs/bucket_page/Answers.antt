@@ -10,19 +10,19 @@ pub overflow_add-place : goal.overflow_add-place
 overflow_add-place c =
     let fits = place-fits _ _ _ _ _ c.page.ensures (bucket-within
     c.args.schema.now c.args.rows c.args.bucket.now c.args.column c.args.place.now (length c.args.list.now)) _ _
-    c.in-Page.is in
+    c.in-Ok.is in
     let many = bucket-rows _ _ _ _ _ _ _ _ _ c.page.ensures _ _
-    c.in-Page.is in
+    c.in-Ok.is in
     omega (arith, fits, many)
 
-pub returns-in-Refused : goal.returns-in-Refused
-returns-in-Refused c =
+pub returns-in-Err : goal.returns-in-Err
+returns-in-Err c =
     let m : Listing = record { list = c.args.list.now; place = c.args.place.now; given = c.args.given.now; rows = c.args.rows } in
-    refused-page _ m _ _ c.page.ensures _ c.in-Refused.is
+    rw c.into.ensures (refused-page _ m _ _ c.page.ensures _ c.in-Err.is)
 
-pub returns-in-Page : goal.returns-in-Page
-returns-in-Page c =
+pub returns-in-Ok : goal.returns-in-Ok
+returns-in-Ok c =
     let m : Listing = record { list = c.args.list.now; place = c.args.place.now; given = c.args.given.now; rows = c.args.rows } in
     rw (bucket-rows _ _ _ _ _ _ _ _ _ c.page.ensures _ _
-    c.in-Page.is) at (given-page _ m _ _ c.page.ensures _ _
-    c.in-Page.is)
+    c.in-Ok.is) at (given-page _ m _ _ c.page.ensures _ _
+    c.in-Ok.is)

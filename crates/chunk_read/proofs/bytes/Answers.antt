@@ -1,7 +1,7 @@
 -- After g bytes g * 8 values of one bit stand.
 -- Assumes nothing.
 use mathlib.Core.Path.{◌≡◌, refl, ap, ◌∙◌}
-use Prim.Native.Nat.{ℕ, ◌+◌, ◌-◌}
+use Prim.Native.Nat.{ℕ, ◌+◌}
 use native.Mathlib.Omega.{arith}
 use Rattle.chunk_read.specs.Post.{primary_of}
 use Rattle.chunk_read.proofs.Writing.{nothing, eight-more}

@@ -1,7 +1,6 @@
 -- 4 for the three bytes, then 5, then what chunk_with says of the head.
 -- Assumes nothing.
 use mathlib.Core.Path.{sym, ap, ◌∙◌}
-use Prim.Native.Nat.{◌-◌}
 use native.Mathlib.Omega.{arith}
 use Rattle.bitmap_spec.specs.Judge.{widths_ok}
 use Rattle.chunk_read.proofs.Answers.{refuse, chunk4, chunk5, chunk-rest, head-narrow, laid}
@@ -10,7 +9,7 @@ use Rattle.chunk_read.proofs.chunk_at.Goals as goal
 pub returns-then-s-at : goal.returns-then-s-at
 returns-then-s-at c =
     let args = c.args in
-    refuse _ _ _ _ _ 4 (chunk4 args.s.now args.at args.n c.if-s-at.true)
+    refuse _ _ _ _ _ _ (chunk4 args.s.now args.at args.n c.if-s-at.true)
 
 pub widths_ok-requires : goal.widths_ok-requires
 widths_ok-requires c =
@@ -23,7 +22,7 @@ pub returns-then-not-widths_ok : goal.returns-then-not-widths_ok
 returns-then-not-widths_ok c =
     let args = c.args in
     let if1 = c.if-s-at in
-    refuse _ _ _ _ _ 5
+    refuse _ _ _ _ _ _
     (chunk5 args.s.now args.at args.n if1.false
     (ap widths_ok (sym c.head_at-h.ensures.0) ∙ sym c.widths_ok.ensures ∙
     c.if-not-widths_ok.true))

@@ -1,7 +1,6 @@
 -- A primary value over 63 is a descriptor over 63; otherwise the parts are added.
 -- Assumes nothing.
 use mathlib.Core.Path.{◌∙◌}
-use Prim.Native.Nat.{◌-◌}
 use native.Mathlib.Omega.{arith}
 use Rattle.chunk_read.proofs.Patching.{too_large, plain, filled}
 use Rattle.chunk_read.proofs.fill.Goals as goal

@@ -1,7 +1,7 @@
 -- After i bytes x is the number of their bits.
 -- Assumes nothing.
 use mathlib.Core.Path.{◌≡◌, refl}
-use Prim.Native.Nat.{◌+◌, ◌-◌}
+use Prim.Native.Nat.{◌+◌}
 use native.Mathlib.Omega.{arith}
 use Rattle.bitmap_spec.specs.Bits.{bits}
 use Rattle.chunk_read.proofs.Cutting.{group-more, group-fits}

@@ -1,7 +1,7 @@
 -- After g groups g * 8 values stand.
 -- Assumes nothing.
 use mathlib.Core.Path.{◌≡◌, refl, ap, ◌∙◌}
-use Prim.Native.Nat.{ℕ, ◌+◌, ◌-◌}
+use Prim.Native.Nat.{ℕ, ◌+◌}
 use native.Mathlib.Omega.{arith}
 use Rattle.bitmap_spec.proofs.Parts.{within, prod}
 use Rattle.chunk_read.specs.Post.{primary_of}

@@ -1,6 +1,6 @@
 -- The fields are those of head_at, term by term; a byte and a product of 256 by 15 fit.
 -- Assumes nothing.
-use Prim.Native.Nat.{◌%◌, ◌+◌, ◌-◌}
+use Prim.Native.Nat.{◌%◌, ◌+◌}
 use mathlib.Core.Path.{refl}
 use native.Mathlib.Omega.{arith}
 use lib.ListN.{get_or}

@@ -1,55 +1,45 @@
--- Rest invariant: what is left of the run, from the last value on, rises exactly if the whole does.
+-- Rest invariant: what is left of the offsets, from the last value on, rises exactly if the whole does.
 -- Assumes nothing.
-use mathlib.Core.Path.{sym, ◌∙◌}
-use Prim.Native.Nat.{◌+◌, ◌-◌}
-use native.Mathlib.Omega.{arith}
-use native.Mathlib.Nat.{add-zero, sub-zero}
+use mathlib.Core.Path.{◌≡◌, sym, ◌∙◌}
+use mathlib.Core.Bool.{true}
+use mathlib.Core.List.{List}
+use Prim.Native.Nat.{ℕ, ◌+◌, ◌≤◌, ◌<◌}
 use native.Mathlib.Numerals.{add-one}
 use borrow.Author.Tests.{lt-leb, le-leb, lt-ltb, le-ltb}
-use Rattle.common.proofs.Lists.{rising_step, rising-end}
+use lib.Dec.{leb, ltb}
+use lib.ListN.{length, get_or, drop, drop_of_length-le}
+use lib.Seq.{drop-cons}
+use Rattle.common.specs.Lists.{rising}
+use Rattle.common.specs.Outcome.{both}
 use Rattle.chunk_read.proofs.is_rising.Goals as goal
 
-pub loop-i-init : goal.loop-i-init
-loop-i-init c = (omega arith, simp (add-zero, sub-zero))
+module _ (n low : ℕ) (l : List ℕ) (i : ℕ) where
+  next : i < length l
+      → rising n low (drop i l) ≡ both (both (leb low (get_or l i 0)) (ltb (get_or l i 0) n))
+      (rising n (get_or l i 0 + 1) (drop (i + 1) l))
+  unfolding rising
+  next h = rw (add-one i, add-one (get_or l i 0), drop-cons l i 0 h)
 
-pub overflow_cast-x : goal.overflow_cast-x
-overflow_cast-x c =
-    let args = c.args in
-    omega (arith, c.type_inv.s (args.o + c.loop-i.i))
+  none : length l ≤ i → rising n low (drop i l) ≡ true
+  unfolding rising
+  none h = rw (drop_of_length-le l {i = i} h)
 
-pub returns-then-x-lo : goal.returns-then-x-lo
-returns-then-x-lo c =
-    let l = c.loop-i in
-    let a = c.args in
+pub returns-then-offset-low : goal.returns-then-offset-low
+returns-then-offset-low c =
+    sym (sym c.loop-x.invariant ∙ next _ _ _ _ c.loop-x-test.true ∙ rw (lt-leb _ _ c.if-offset-low.true))
+
+pub returns-then-n-offset : goal.returns-then-n-offset
+returns-then-n-offset c =
     sym
-    (sym l.invariant.1 ∙ rising_step a.n l.lo a.s.now a.o a.e l.i (omega arith) (omega arith) ∙
-    simp (lt-leb _ _ c.if-x-lo.true))
+    (sym c.loop-x.invariant ∙ next _ _ _ _ c.loop-x-test.true
+    ∙ rw (le-leb _ _ c.if-offset-low.false, le-ltb _ _ c.if-n-offset.true))
 
-pub returns-then-n-x : goal.returns-then-n-x
-returns-then-n-x c =
-    let l = c.loop-i in
-    let a = c.args in
-    sym (sym l.invariant.1 ∙ rising_step a.n l.lo a.s.now a.o a.e l.i (omega arith) (omega arith)
-    ∙ simp (le-leb _ _ c.if-x-lo.false, le-ltb _ _ c.if-n-x.true))
-
-pub overflow_add-lo : goal.overflow_add-lo
-overflow_add-lo c =
-    let args = c.args in
-    let loop = c.loop-i in
-    omega (arith, c.type_inv.s (args.o + loop.i))
-
-pub loop-i-preserved : goal.loop-i-preserved
-loop-i-preserved c =
-    let l = c.loop-i in
-    let a = c.args in (
-      omega arith,
-      sym (rising_step a.n l.lo a.s.now a.o a.e l.i (omega arith) (omega arith)
-          ∙ simp (le-leb _ _ c.if-x-lo.false, lt-ltb _ _ c.if-n-x.false, add-one))
-          ∙ l.invariant.1,
-    )
+pub loop-x-preserved : goal.loop-x-preserved
+loop-x-preserved c =
+    sym
+    (next _ _ _ _ c.loop-x-test.true
+    ∙ rw (le-leb _ _ c.if-offset-low.false, lt-ltb _ _ c.if-n-offset.false))
+    ∙ c.loop-x.invariant
 
 pub returns : goal.returns
-returns c =
-    let a = c.args in
-    sym (rising-end a.n c.loop-i.lo a.s.now a.o a.e c.loop-i.i c.loop-i-test.false) ∙
-    c.loop-i.invariant.1
+returns c = sym (none _ _ _ _ c.loop-x-test.false) ∙ c.loop-x.invariant

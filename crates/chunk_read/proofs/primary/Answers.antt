@@ -1,7 +1,7 @@
 -- No bits; or whole groups and the values behind them.
 -- Assumes nothing.
 use mathlib.Core.Path.{◌∙◌}
-use Prim.Native.Nat.{◌-◌, ◌*◌, ◌/◌}
+use Prim.Native.Nat.{◌*◌, ◌/◌}
 use native.Mathlib.Omega.{arith}
 use Rattle.chunk_read.proofs.Writing.{alike, joined}
 use Rattle.chunk_read.proofs.Cutting.{whole_room, none-plain}
@@ -24,9 +24,7 @@ returns-then-n-lt8 c =
     c.repeat_few.ensures
 
 pub repeat-requires : goal.repeat-requires
-repeat-requires c =
-    let pre = c.requires in
-    (pre.0, pre.1)
+repeat-requires c = (c.requires.0, omega arith, c.requires.1)
 
 pub shape_of-out-then-h-eq0 : goal.shape_of-out-then-h-eq0
 shape_of-out-then-h-eq0 c = c.repeat.auto.out

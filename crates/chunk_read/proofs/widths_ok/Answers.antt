@@ -1,6 +1,5 @@
 -- The two tests are those of widths_ok.
 -- Assumes nothing.
-use Prim.Native.Nat.{◌-◌}
 use borrow.Author.Tests.{lt-leb, le-leb, eq-eqb, ne_eqb}
 use Rattle.bitmap_spec.specs.Judge.{widths_ok}
 use Rattle.chunk_read.proofs.widths_ok.Goals as goal

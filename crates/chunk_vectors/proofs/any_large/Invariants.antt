@@ -1,10 +1,6 @@
--- Those from i on are at most 63.
-use Rattle.std.proofs.Common.{◌≤◌, length, drop}
-use Rattle.bitmap_laws.proofs.Values.{AllLe}
+-- Those before d are at most 63.
+use Rattle.std.proofs.Common.{ℕ, ◌≤◌, ◌<◌, get_or}
 use Rattle.chunk_vectors.proofs.any_large.Given as goal
 
-abbrev pub invariant-loop-i : goal.invariant-loop-i
-invariant-loop-i l = (l.i ≤ length l.ds) × AllLe 63 (drop l.i l.ds)
-
-abbrev pub decreases-loop-i : goal.decreases-loop-i
-decreases-loop-i l = l.i
+abbrev pub invariant-loop-d : goal.invariant-loop-d
+invariant-loop-d l = (k : ℕ) → k < l.d-index → get_or l.ds k 0 ≤ 63

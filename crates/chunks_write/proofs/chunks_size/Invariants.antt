@@ -1,15 +1,14 @@
--- The invariant: the size so far and the length of what is left make the length of all chunks.
+-- The invariant: the size so far and that of the chunks left make the size of all chunks.
 -- Assumes nothing.
-use Prim.Native.Nat.{◌/◌}
-use Rattle.bitmap_spec.specs.Form.{write_chunks}
-use Rattle.chunks_write.specs.Rest.{rest_chunks}
 use mathlib.Core.Path.{◌≡◌}
-use Prim.Native.Nat.{◌+◌, ◌-◌, ◌≤◌}
+use Prim.Native.Nat.{◌+◌}
 use lib.ListN.{length}
+use Rattle.bitmap_laws.proofs.Values.{AllLe}
+use Rattle.chunks_write.proofs.Rests.{chunks_of}
 use Rattle.chunks_write.proofs.chunks_size.Given as goal
 
-abbrev pub invariant-loop-i : goal.invariant-loop-i
-invariant-loop-i l = (l.i ≤ length l.ds) × (l.t + length (rest_chunks l.ds l.i) ≡ length (write_chunks (length l.ds / 256) l.ds))
-
-abbrev pub decreases-loop-i : goal.decreases-loop-i
-decreases-loop-i l = length l.ds - l.i
+abbrev pub invariant-loop-chunk : goal.invariant-loop-chunk
+invariant-loop-chunk l =
+    (l.chunk-iterator.size ≡ 256)
+    × AllLe 63 l.chunk-iterator.rest.now
+    × (l.t + length (chunks_of l.chunk-iterator.rest.now) ≡ length (chunks_of l.ds))

@@ -1,15 +1,13 @@
 -- The invariant (Along): the chunks passed are written, and with what is left they are all chunks.
 -- Assumes nothing.
-use Rattle.bitmap_spec.specs.Form.{write_chunks}
+use mathlib.Core.Path.{◌≡◌}
 use Rattle.bitmap_laws.proofs.Output.{Along}
-use Rattle.chunks_write.specs.Rest.{rest_chunks}
-use Prim.Native.Nat.{◌/◌}
-use Prim.Native.Nat.{◌-◌, ◌≤◌}
-use lib.ListN.{length}
+use Rattle.bitmap_laws.proofs.Values.{AllLe}
+use Rattle.chunks_write.proofs.Rests.{chunks_of}
 use Rattle.chunks_write.proofs.put_chunks.Given as goal
 
-abbrev pub invariant-loop-i : goal.invariant-loop-i
-invariant-loop-i l = (l.i ≤ length l.ds) × Along l.initial.out l.out l.at l.t (rest_chunks l.ds l.i) (write_chunks (length l.ds / 256) l.ds)
-
-abbrev pub decreases-loop-i : goal.decreases-loop-i
-decreases-loop-i l = length l.ds - l.i
+abbrev pub invariant-loop-chunk : goal.invariant-loop-chunk
+invariant-loop-chunk l =
+    (l.chunk-iterator.size ≡ 256)
+    × AllLe 63 l.chunk-iterator.rest.now
+    × Along l.initial.out l.out l.at l.t (chunks_of l.chunk-iterator.rest.now) (chunks_of l.ds)

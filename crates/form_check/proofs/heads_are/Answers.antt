@@ -1,69 +1,56 @@
 -- The heads from each chunk on, with those before it found right, are all heads; what is left was read as chunks.
 -- Assumes nothing.
-use mathlib.Core.Path.{◌≡◌, sym, ◌∙◌}
-use Prim.Native.Nat.{◌-◌}
+use mathlib.Core.Path.{refl, sym, ◌∙◌}
 use native.Mathlib.Omega.{arith}
-use lib.ListN.{length}
-use Rattle.chunks_write.proofs.Rests.{part_length}
-use Rattle.form_check.proofs.Walks.{left-start, left-next, next-is, next-in, parts-few}
-use Rattle.form_check.proofs.Walks.{rest_all, rest-none, rest-stop, rest-go}
+use Rattle.form_check.proofs.Walks.{left-start, front-next, front-stop, front-go, heads_none, next-is, next-in, parts-few}
 use Rattle.form_check.proofs.heads_are.Goals as goal
 
-pub loop-i-init : goal.loop-i-init
-loop-i-init c =
-    let all : length c.args.ds.now - 0 ≡ length c.args.ds.now = omega arith in
-    (omega arith, rw all (left-start c.args.s.now c.args.ds.now c.requires.1), rest_all c.args.s.now c.args.ds.now)
+pub loop-chunk-init : goal.loop-chunk-init
+loop-chunk-init c =
+    let items = c.chunks-chunk-items.ensures in
+    rw (c.into_iter-chunk-iterator.ensures.into_iter_gives, items.rest, items.size)
+    (refl, left-start c.args.s.now c.args.ds.now c.requires.1, refl)
 
 pub head_at-h-requires : goal.head_at-h-requires
 head_at-h-requires c =
-    let on = left-next c.args.s.now c.loop-i.at (length c.args.ds.now) c.loop-i.i c.chunk_end-e.result c.chunk_end-e.ensures.0 c.chunk_end-e.ensures.1 c.chunk_end-e.ensures.2
-    c.chunk_end-e.ensures.3 c.loop-i.invariant.1 in
-    (on.0.starts, omega (arith, c.chunk_end-e.ensures.2))
-
-pub head_is-requires : goal.head_is-requires
-head_is-requires c =
-    let n = part_length c.args.ds.now c.loop-i.i c.chunk_end-e.result c.chunk_end-e.ensures.0 c.chunk_end-e.ensures.1 in
-    (rw n (omega (arith, c.chunk_end-e.ensures.0)), rw n (omega (arith, c.chunk_end-e.ensures.2)))
+    let step = c.in-Some.ensures.steps.1 in
+    let long = rw c.loop-chunk.invariant.0 at step.1 in
+    let on = front-next c.args.s.now _ _ _ c.loop-chunk.at step.0 long step.2 c.loop-chunk.invariant.1 in
+    (on.0.starts, omega (arith, long))
 
 pub returns-then-not-head_is : goal.returns-then-not-head_is
 returns-then-not-head_is c =
+    let step = c.in-Some.ensures.steps.1 in
+    let long = rw c.loop-chunk.invariant.0 at step.1 in
     let fails = sym c.head_is.ensures ∙ c.if-not-head_is.true in
-    sym (rest-stop c.args.s.now c.args.ds.now c.loop-i.at c.loop-i.i c.chunk_end-e.result c.chunk_end-e.ensures.0 c.chunk_end-e.ensures.1 c.chunk_end-e.ensures.2 c.chunk_end-e.ensures.3
-    c.head_at-h.result c.head_at-h.ensures.0 fails)
-    ∙ c.loop-i.invariant.2
+    sym (front-stop c.args.s.now _ _ _ c.loop-chunk.at step.0 long step.2 c.head_at-h.result c.head_at-h.ensures.0 fails)
+    ∙ c.loop-chunk.invariant.2
 
 pub overflow_mul-at : goal.overflow_mul-at
 overflow_mul-at c =
-    let on = left-next c.args.s.now c.loop-i.at (length c.args.ds.now) c.loop-i.i c.chunk_end-e.result c.chunk_end-e.ensures.0 c.chunk_end-e.ensures.1 c.chunk_end-e.ensures.2
-    c.chunk_end-e.ensures.3 c.loop-i.invariant.1 in
-    let few = parts-few c.args.s.now c.loop-i.at (c.chunk_end-e.result - c.loop-i.i) on.0 c.head_at-h.result c.head_at-h.ensures.0 c.head_at-h.ensures.1 in
-    omega (arith, few)
+    let step = c.in-Some.ensures.steps.1 in
+    let long = rw c.loop-chunk.invariant.0 at step.1 in
+    let on = front-next c.args.s.now _ _ _ c.loop-chunk.at step.0 long step.2 c.loop-chunk.invariant.1 in
+    omega (arith, parts-few c.args.s.now c.loop-chunk.at _ on.0 c.head_at-h.result c.head_at-h.ensures.0 c.head_at-h.ensures.1)
 
-pub overflow_add-at : goal.overflow_add-at
-overflow_add-at c =
-    let on = left-next c.args.s.now c.loop-i.at (length c.args.ds.now) c.loop-i.i c.chunk_end-e.result c.chunk_end-e.ensures.0 c.chunk_end-e.ensures.1 c.chunk_end-e.ensures.2
-    c.chunk_end-e.ensures.3 c.loop-i.invariant.1 in
-    let few = parts-few c.args.s.now c.loop-i.at (c.chunk_end-e.result - c.loop-i.i) on.0 c.head_at-h.result c.head_at-h.ensures.0 c.head_at-h.ensures.1 in
-    omega (arith, few)
+pub overflow_add-at-in-loop-chunk : goal.overflow_add-at-in-loop-chunk
+overflow_add-at-in-loop-chunk c =
+    let step = c.in-Some.ensures.steps.1 in
+    let long = rw c.loop-chunk.invariant.0 at step.1 in
+    let on = front-next c.args.s.now _ _ _ c.loop-chunk.at step.0 long step.2 c.loop-chunk.invariant.1 in
+    omega (arith, next-in c.args.s.now c.loop-chunk.at _ on.0 c.head_at-h.result c.head_at-h.ensures.0)
 
-pub overflow_add-at-in-loop-i : goal.overflow_add-at-in-loop-i
-overflow_add-at-in-loop-i c =
-    let on = left-next c.args.s.now c.loop-i.at (length c.args.ds.now) c.loop-i.i c.chunk_end-e.result c.chunk_end-e.ensures.0 c.chunk_end-e.ensures.1 c.chunk_end-e.ensures.2
-    c.chunk_end-e.ensures.3 c.loop-i.invariant.1 in
-    omega (arith, next-in c.args.s.now c.loop-i.at (c.chunk_end-e.result - c.loop-i.i) on.0 c.head_at-h.result c.head_at-h.ensures.0)
-
-pub loop-i-preserved : goal.loop-i-preserved
-loop-i-preserved c =
-    let on = left-next c.args.s.now c.loop-i.at (length c.args.ds.now) c.loop-i.i c.chunk_end-e.result c.chunk_end-e.ensures.0 c.chunk_end-e.ensures.1 c.chunk_end-e.ensures.2
-    c.chunk_end-e.ensures.3 c.loop-i.invariant.1 in
+pub loop-chunk-preserved : goal.loop-chunk-preserved
+loop-chunk-preserved c =
+    let step = c.in-Some.ensures.steps.1 in
+    let long = rw c.loop-chunk.invariant.0 at step.1 in
+    let on = front-next c.args.s.now _ _ _ c.loop-chunk.at step.0 long step.2 c.loop-chunk.invariant.1 in
+    let is = next-is c.args.s.now c.loop-chunk.at _ on.0 c.head_at-h.result c.head_at-h.ensures.0 in
     let holds = sym c.head_is.ensures ∙ c.if-not-head_is.false in
-    let go = rest-go c.args.s.now c.args.ds.now c.loop-i.at c.loop-i.i c.chunk_end-e.result c.chunk_end-e.ensures.0 c.chunk_end-e.ensures.1 c.chunk_end-e.ensures.2 c.chunk_end-e.ensures.3
-    c.head_at-h.result c.head_at-h.ensures.0 holds in (
-      c.chunk_end-e.ensures.1,
-      rw (next-is c.args.s.now c.loop-i.at (c.chunk_end-e.result - c.loop-i.i) on.0 c.head_at-h.result c.head_at-h.ensures.0) on.1,
-      rw (next-is c.args.s.now c.loop-i.at (c.chunk_end-e.result - c.loop-i.i) on.0 c.head_at-h.result c.head_at-h.ensures.0) (go ∙ c.loop-i.invariant.2),
-    )
+    let go = front-go c.args.s.now _ _ _ c.loop-chunk.at step.0 long step.2 c.head_at-h.result c.head_at-h.ensures.0 holds in
+    (c.in-Some.ensures.steps.0 ∙ c.loop-chunk.invariant.0, rw is on.1, rw is (go ∙ c.loop-chunk.invariant.2))
 
 pub returns : goal.returns
 returns c =
-    sym (rest-none c.args.s.now c.args.ds.now c.loop-i.at c.loop-i.i (omega arith)) ∙ c.loop-i.invariant.2
+    let none = c.in-None.ensures.steps.1.0 in
+    sym (heads_none c.args.s.now _ c.loop-chunk.at none) ∙ c.loop-chunk.invariant.2

@@ -4,12 +4,8 @@ use lib.ListN.{drop}
 use Rattle.common.specs.Lists.{sum}
 use Rattle.bitmap_spec.specs.Judge.{size_of}
 use mathlib.Core.Path.{◌≡◌}
-use Prim.Native.Nat.{◌+◌, ◌-◌, ◌*◌, ◌≤◌}
-use lib.ListN.{length}
+use Prim.Native.Nat.{◌+◌, ◌*◌, ◌≤◌}
 use Rattle.form_write.proofs.body_size.Given as goal
 
-abbrev pub invariant-loop-i : goal.invariant-loop-i
-invariant-loop-i l = (l.i ≤ length l.ds) × (l.t ≤ l.i * 32) × (l.t + sum size_of (drop l.i l.ds) ≡ sum size_of l.ds)
-
-abbrev pub decreases-loop-i : goal.decreases-loop-i
-decreases-loop-i l = length l.ds - l.i
+abbrev pub invariant-loop-d : goal.invariant-loop-d
+invariant-loop-d l = (l.t ≤ l.d-index * 32) × (l.t + sum size_of (drop l.d-index l.ds) ≡ sum size_of l.ds)

@@ -1,6 +1,5 @@
 -- The parts of a form, added.
 -- Assumes nothing.
-use Prim.Native.Nat.{◌-◌}
 use native.Mathlib.Omega.{arith}
 use Rattle.form_write.proofs.form_size.Goals as goal
 

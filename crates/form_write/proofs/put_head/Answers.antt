@@ -4,7 +4,6 @@ use Rattle.form_write.proofs.Whole.{head-chunks}
 use Rattle.bitmap_laws.proofs.Output.{length-written}
 use Rattle.bitmap_laws.proofs.Round.{header, six-is}
 use mathlib.Core.Path.{ap, ◌∙◌}
-use Prim.Native.Nat.{◌-◌}
 use native.Mathlib.Omega.{arith}
 use lib.ListN.{length}
 use Rattle.form_write.proofs.put_head.Goals as goal

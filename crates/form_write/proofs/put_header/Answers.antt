@@ -2,7 +2,6 @@
 -- Assumes nothing.
 use Rattle.form_write.proofs.Whole.{head-parts}
 use mathlib.Core.Path.{refl}
-use Prim.Native.Nat.{◌-◌}
 use Rattle.form_write.proofs.put_header.Goals as goal
 
 pub returns : goal.returns

@@ -1,7 +1,7 @@
 -- After b blocks f counts those of b * 240 bytes.
 -- Assumes nothing.
 use mathlib.Core.Path.{◌≡◌, refl, sym, ap, ◌∙◌}
-use Prim.Native.Nat.{ℕ, ◌+◌, ◌-◌, ◌*◌, ◌/◌, ◌%◌}
+use Prim.Native.Nat.{ℕ, ◌+◌, ◌*◌, ◌/◌, ◌%◌}
 use native.Mathlib.Omega.{arith}
 use Rattle.bitmap_spec.proofs.Tally.{tally, tally-cat}
 use Rattle.judge.specs.Post.{fall}
@@ -10,10 +10,6 @@ use Rattle.judge.proofs.all_falls.Goals as goal
 pub loop-b-init : goal.loop-b-init
 unfolding tally
 loop-b-init c = (omega arith, refl, omega arith)
-
-pub overflow_add-f : goal.overflow_add-f
-overflow_add-f c =
-    omega (arith, c.falls.ensures.1, c.loop-b.invariant.2, c.loop-b-test.true, c.requires.1)
 
 pub loop-b-preserved : goal.loop-b-preserved
 loop-b-preserved c =
@@ -28,10 +24,6 @@ loop-b-preserved c =
           )),
       omega (arith, c.falls.ensures.1, c.loop-b.invariant.2),
     )
-
-pub overflow_add-result : goal.overflow_add-result
-overflow_add-result c =
-    omega (arith, c.falls-2.ensures.1, c.loop-b.invariant.2, c.loop-b.invariant.0, c.requires.1)
 
 pub returns : goal.returns
 returns c =

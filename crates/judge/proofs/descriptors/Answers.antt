@@ -1,30 +1,25 @@
 -- Rest invariant: the chunks that are left, behind the descriptors read, say what all chunks say.
 -- Assumes nothing.
-use mathlib.Core.Path.{◌≡◌, refl, sym, ap, ◌∙◌}
-use Prim.Native.Nat.{◌+◌, ◌-◌, ◌*◌}
+use mathlib.Core.Path.{◌≡◌, sym, ◌∙◌}
+use Prim.Native.Nat.{◌+◌, ◌*◌}
 use native.Mathlib.Omega.{arith}
 use lib.ListN.{take}
-use native.Mathlib.Nat.{sub-zero}
-use Rattle.chunk_read.specs.Post.{said}
+use Rattle.std.proofs.lemmas.Result.{err_from_is_err_and}
 use Rattle.judge.proofs.Chunking.{was-refused, was-found, chunks-stop, again, chunks-none, chunks-last, refuse}
 use Rattle.judge.proofs.Chunking.{accept, listed}
 use Rattle.judge.proofs.descriptors.Goals as goal
 
-pub loop-i-init : goal.loop-i-init
-loop-i-init c = (omega arith, omega arith, refl, simp sub-zero)
-
-pub returns-in-Refused : goal.returns-in-Refused
-returns-in-Refused c =
-    let e = was-refused _ _
-    (sym (ap said c.in-Refused.is) ∙ c.chunk_at.ensures.says)
-    in
-    refuse _ _ _ _
+pub returns-in_err-at : goal.returns-in_err-at
+returns-in_err-at c =
+    let p = err_from_is_err_and c.from_residual.result c.from_residual.ensures.1 in
+    rw (p.1, p.2)
+    (refuse _ _ _ _
     (sym c.loop-i.invariant.3 ∙ chunks-stop c.args.s.now c.loop-i.at (take (c.loop-i.i * 256) c.loop-i.out) c.args.whole c.loop-i.i c.args.rest _
-    c.loop-i-test.true e)
+    c.loop-i-test.true (was-refused _ _ c.in_err-at.ensures.says)))
 
 pub loop-i-preserved : goal.loop-i-preserved
 loop-i-preserved c =
-    let f = was-found _ _ (sym (ap said c.in-Next.is) ∙ c.chunk_at.ensures.says) in
+    let f = was-found _ _ c.in_ok-at.ensures.says in
     let r = again c.args.s.now c.loop-i.out _ c.loop-i.at _ c.loop-i.i c.args.whole c.args.rest _ f.0
     c.loop-i-test.true f.1 f.2
     (c.chunk_at.ensures.holds f.0 f.1) c.loop-i.invariant.3 in

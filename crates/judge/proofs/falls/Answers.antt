@@ -1,6 +1,6 @@
 -- After t bytes f counts those that do not rise, at most t.
 -- Assumes nothing.
-use mathlib.Core.Path.{◌≡◌, refl}
+use mathlib.Core.Path.{refl}
 use Prim.Native.Nat.{◌+◌, ◌-◌}
 use native.Mathlib.Omega.{arith}
 use lib.ListN.{get_or}
@@ -13,17 +13,6 @@ pub loop-t-init : goal.loop-t-init
 unfolding tally
 loop-t-init c = (omega arith, refl, omega arith)
 
-pub overflow_cast-f : goal.overflow_cast-f
-overflow_cast-f c = tt
-
-pub overflow_add-f-in-loop-t-2 : goal.overflow_add-f-in-loop-t-2
-overflow_add-f-in-loop-t-2 c =
-    omega (
-      arith,
-      byte_le (leb (get_or c.args.s.now (c.args.i + c.loop-t.t) 0) (get_or c.args.s.now (c.args.i + c.loop-t.t - 1) 0)),
-      c.loop-t.invariant.2,
-    )
-
 pub loop-t-preserved : goal.loop-t-preserved
 loop-t-preserved c =
     let b = leb (get_or c.args.s.now (c.args.i + c.loop-t.t) 0) (get_or c.args.s.now (c.args.i + c.loop-t.t - 1) 0) in (
@@ -31,8 +20,3 @@ loop-t-preserved c =
       omega (arith, byte_one b, falls-more c.args.s.now c.args.i c.loop-t.t, c.loop-t.invariant.1),
       omega (arith, byte_le b, c.loop-t.invariant.2),
     )
-
-pub returns : goal.returns
-returns c =
-    let e : c.loop-t.t ≡ c.args.n = omega arith in
-    rw (← e) (c.loop-t.invariant.1, c.loop-t.invariant.2)

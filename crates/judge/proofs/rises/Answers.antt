@@ -1,7 +1,7 @@
 -- None or one byte rises; more do if none after the first falls.
 -- Assumes nothing.
 use mathlib.Core.Path.{sym, ap, ◌∙◌}
-use Prim.Native.Nat.{ℕ, ◌-◌}
+use Prim.Native.Nat.{ℕ}
 use native.Mathlib.Omega.{arith}
 use lib.Dec.{eqb}
 use Rattle.judge.proofs.Descents.{rises-if, rises-short}

@@ -1,7 +1,6 @@
 -- By cases on the test, as size_of.
 -- Assumes nothing.
 use mathlib.Core.Path.{sym}
-use Prim.Native.Nat.{◌-◌}
 use Rattle.judge.proofs.Walking.{size-sparse, size-dense}
 use Rattle.judge.proofs.size_of.Goals as goal
 

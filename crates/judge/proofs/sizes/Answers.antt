@@ -1,7 +1,7 @@
 -- After b blocks t is the sum of b * 256 sizes, each at most 32.
 -- Assumes nothing.
 use mathlib.Core.Path.{◌≡◌, refl, sym, ap, ◌∙◌}
-use Prim.Native.Nat.{ℕ, ◌+◌, ◌-◌, ◌*◌, ◌/◌, ◌%◌}
+use Prim.Native.Nat.{ℕ, ◌+◌, ◌*◌, ◌/◌, ◌%◌}
 use native.Mathlib.Omega.{arith}
 use Rattle.bitmap_spec.proofs.Tally.{tally}
 use Rattle.judge.specs.Post.{size_at}
@@ -11,10 +11,6 @@ use Rattle.judge.proofs.sizes.Goals as goal
 pub loop-b-init : goal.loop-b-init
 unfolding tally
 loop-b-init c = (omega arith, refl, omega arith)
-
-pub overflow_add-t : goal.overflow_add-t
-overflow_add-t c =
-    omega (arith, c.sizes_in.ensures.1, c.loop-b.invariant.2, c.loop-b-test.true, c.requires.0)
 
 pub loop-b-preserved : goal.loop-b-preserved
 loop-b-preserved c =
@@ -29,10 +25,6 @@ loop-b-preserved c =
           )),
       omega (arith, c.sizes_in.ensures.1, c.loop-b.invariant.2),
     )
-
-pub overflow_add-result : goal.overflow_add-result
-overflow_add-result c =
-    omega (arith, c.sizes_in-2.ensures.1, c.loop-b.invariant.2, c.loop-b.invariant.0, c.requires.0)
 
 pub returns : goal.returns
 returns c =

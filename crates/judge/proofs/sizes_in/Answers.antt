@@ -1,7 +1,7 @@
 -- After k descriptors t is the sum of their sizes, each at most 32.
 -- Assumes nothing.
-use mathlib.Core.Path.{◌≡◌, refl}
-use Prim.Native.Nat.{◌+◌, ◌-◌}
+use mathlib.Core.Path.{refl}
+use Prim.Native.Nat.{◌+◌}
 use native.Mathlib.Omega.{arith}
 use lib.ListN.{get_or}
 use Rattle.bitmap_spec.proofs.Tally.{tally}
@@ -34,8 +34,3 @@ loop-k-preserved c = (
   omega (arith, c.size_of.ensures, size-more c.args.d.now c.args.i c.loop-k.k, c.loop-k.invariant.1),
   omega (arith, c.size_of.ensures, size-le (get_or c.args.d.now (c.args.i + c.loop-k.k) 0), c.loop-k.invariant.2),
 )
-
-pub returns : goal.returns
-returns c =
-    let e : c.loop-k.k ≡ c.args.n = omega arith in
-    rw (← e) (c.loop-k.invariant.1, c.loop-k.invariant.2)

@@ -1,4 +1,5 @@
--- The loop keeps v as the big endian number of the bytes read so far, below 256 to their number: no sum wraps. Assumes nothing.
+-- The loop keeps v as the big endian number of the bytes read so far, below 256 to their number: no sum wraps. Assumes
+-- nothing.
 use mathlib.Core.Path.{◌≡◌}
 use Prim.Native.Nat.{◌-◌, ◌^◌, ◌≤◌, ◌<◌}
 use Rattle.common.specs.Bytes.{big_at}

@@ -10,10 +10,5 @@ returns-then-s-at c =
     let args = c.args in
     (sym (bit_past args.s.now args.at args.i (omega arith)), omega arith)
 
-pub returns-then-s-at-2 : goal.returns-then-s-at-2
-returns-then-s-at-2 c =
-    let args = c.args in
-    (sym (bit_past args.s.now args.at args.i (omega arith)), omega arith)
-
 pub returns : goal.returns
 returns c = (c.low_bit.ensures, rw c.low_bit.ensures (bit-small _ _ _))

@@ -7,8 +7,10 @@ use native.Mathlib.Omega.{arith}
 use lib.ListN.{length}
 use Rattle.numbers.proofs.has.Goals as goal
 
-pub returns-then-s-at : goal.returns-then-s-at
-returns-then-s-at c = sym (lt-leb (c.args.at + c.args.w) (length c.args.s.now) (omega arith))
+pub returns-then-at-s : goal.returns-then-at-s
+returns-then-at-s c = room-shift c.args.at c.args.w (length c.args.s.now) c.if-at-s.true
 
-pub returns : goal.returns
-returns c = room-shift c.args.at c.args.w (length c.args.s.now) c.if-s-at.false
+pub returns-else-at-s : goal.returns-else-at-s
+returns-else-at-s c =
+    rw (lt-leb c.args.at (length c.args.s.now) c.if-at-s.false)
+    (sym (lt-leb (c.args.at + c.args.w) (length c.args.s.now) (omega arith)))

@@ -1,6 +1,7 @@
 -- By the tests, in the order of the definition; the weight is at most 128 ^ 4, so nothing wraps. Assumes nothing.
 use mathlib.Core.Path.{sym}
 use native.Mathlib.Omega.{arith}
+use borrow.Author.Tests.{lt-ltb}
 use Rattle.row_laws.proofs.Varints.{prod, last-large, last_some, last-zero}
 use Rattle.numbers.proofs.last_group.Goals as goal
 
@@ -14,7 +15,8 @@ pub returns-then-n-gt4294967295 : goal.returns-then-n-gt4294967295
 returns-then-n-gt4294967295 c = sym (last-large _ _ _ _ c.if-n-gt4294967295.true)
 
 pub returns-then-b-gt0 : goal.returns-then-b-gt0
-returns-then-b-gt0 c = sym (last_some _ _ _ _ c.if-n-gt4294967295.false c.if-b-gt0.true)
+returns-then-b-gt0 c =
+    let b = c.if-b-gt0.true in rw (lt-ltb 0 c.args.b b) (sym (last_some _ _ _ _ c.if-n-gt4294967295.false b))
 
-pub returns : goal.returns
-returns c = sym (last-zero _ _ _ _ c.if-n-gt4294967295.false c.if-b-gt0.false)
+pub returns-else-b-gt0 : goal.returns-else-b-gt0
+returns-else-b-gt0 c = sym (last-zero _ _ _ _ c.if-n-gt4294967295.false c.if-b-gt0.false)

@@ -1,4 +1,5 @@
--- The loop goes down from the last byte and keeps v as the little endian number of the bytes behind j: no sum wraps. Assumes nothing.
+-- The loop goes down from the last byte and keeps v as the little endian number of the bytes behind j: no sum wraps.
+-- Assumes nothing.
 use mathlib.Core.Path.{◌≡◌, ap, subst, ◌∙◌}
 use Prim.Native.Nat.{ℕ, ◌+◌, ◌-◌, ◌*◌, ◌^◌, ◌<◌}
 use native.Mathlib.Nat.{add-zero, sub-zero, sub_self}
@@ -13,10 +14,19 @@ unfolding little_at
 loop-j-init c = (omega arith, simp sub_self, simp sub_self (search rules))
 
 pub overflow_mul-v : goal.overflow_mul-v
-overflow_mul-v c = omega (arith, room c.args.w c.loop-j.j c.loop-j-test.true c.loop-j.invariant.0 c.loop-j.v (omega arith) c.loop-j.invariant.2)
+overflow_mul-v c = omega (
+  arith,
+  room c.args.w c.loop-j.j c.loop-j-test.true c.loop-j.invariant.0 c.loop-j.v
+      (omega arith) c.loop-j.invariant.2,
+)
 
 pub overflow_add-v : goal.overflow_add-v
-overflow_add-v c = omega (arith, room c.args.w c.loop-j.j c.loop-j-test.true c.loop-j.invariant.0 c.loop-j.v (omega arith) c.loop-j.invariant.2, c.wide.ensures.1)
+overflow_add-v c = omega (
+  arith,
+  room c.args.w c.loop-j.j c.loop-j-test.true c.loop-j.invariant.0 c.loop-j.v
+      (omega arith) c.loop-j.invariant.2,
+  c.wide.ensures.1,
+)
 
 pub loop-j-preserved : goal.loop-j-preserved
 loop-j-preserved c = let l = c.loop-j in

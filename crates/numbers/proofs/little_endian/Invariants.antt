@@ -1,4 +1,5 @@
--- The loop goes down from the last byte and keeps v as the little endian number of the bytes behind j: no sum wraps. Assumes nothing.
+-- The loop goes down from the last byte and keeps v as the little endian number of the bytes behind j: no sum wraps.
+-- Assumes nothing.
 use mathlib.Core.Path.{◌≡◌}
 use Prim.Native.Nat.{◌+◌, ◌-◌, ◌^◌, ◌≤◌, ◌<◌}
 use Rattle.common.specs.Bytes.{little_at}

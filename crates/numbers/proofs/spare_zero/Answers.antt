@@ -12,6 +12,6 @@ pub bounds-s-at : goal.bounds-s-at
 unfolding ceil8
 bounds-s-at c = omega arith
 
-pub returns : goal.returns
+pub returns-else-r-eq0 : goal.returns-else-r-eq0
 unfolding low_spare_zero
-returns c = rw (ne_eqb _ 0 c.if-r-eq0.false)
+returns-else-r-eq0 c = rw (ne_eqb _ 0 c.if-r-eq0.false)

@@ -8,26 +8,24 @@ use Rattle.pair_place.proofs.form_length.Goals as goal
 
 pub describe-requires : goal.describe-requires
 describe-requires c =
-    (c.requires.0, omega (arith, c.requires.1, c.requires.0.first.few, c.requires.0.second.few), c.requires.2)
+    (omega (arith, c.requires.0, c.args.x.sound.few, c.args.y.sound.few), c.requires.1)
 
 pub slice_bounds-form_size-end-2 : goal.slice_bounds-form_size-end-2
 slice_bounds-form_size-end-2 c =
     sym
-    (trimmed-long c.args.o c.args.a.now c.args.da.now c.args.x c.args.b.now c.args.db.now c.args.y
-    c.requires.0 c.describe.new.ds _ c.args.n c.trim-m.result _ c.requires.1
+    (trimmed-long c.args.o c.args.x c.args.y c.describe.new.ds _ c.args.n c.trim-m.result _ c.requires.0
     c.describe.ensures c.trim-m.ensures (refl))
 
 pub form_size-requires : goal.form_size-requires
 form_size-requires c =
-    let d = describes c.args.o c.args.a.now c.args.da.now c.args.x c.args.b.now c.args.db.now c.args.y
-    c.requires.0
-    c.describe.new.ds _ c.args.n c.trim-m.result _ c.requires.1 c.describe.ensures
+    let d = describes c.args.o c.args.x c.args.y
+    c.describe.new.ds _ c.args.n c.trim-m.result _ c.requires.0 c.describe.ensures
     c.trim-m.ensures (refl) in
     (few _ _ _ _ d, fine _ _ _ _ d)
 
 pub returns : goal.returns
 returns c =
     c.form_size.ensures ∙ size _ _ _ _
-    (describes c.args.o c.args.a.now c.args.da.now c.args.x c.args.b.now c.args.db.now c.args.y c.requires.0
-    c.describe.new.ds _ c.args.n c.trim-m.result _ c.requires.1 c.describe.ensures
+    (describes c.args.o c.args.x c.args.y
+    c.describe.new.ds _ c.args.n c.trim-m.result _ c.requires.0 c.describe.ensures
     c.trim-m.ensures (refl))

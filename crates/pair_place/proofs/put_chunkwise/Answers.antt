@@ -13,30 +13,28 @@ use Rattle.pair_place.proofs.put_chunkwise.Goals as goal
 pub loop-k-init : goal.loop-k-init
 loop-k-init c = (
   omega arith,
-  starts c.args.o c.args.a.now c.args.da.now c.args.x c.args.b.now c.args.db.now c.args.y _ c.requires.0
-      refl refl refl refl,
+  starts c.args.o c.args.x c.args.y _ refl refl refl refl,
   refl,
   refl,
   refl,
-  no-descs (result_of c.args.o c.args.a.now c.args.da.now c.args.x c.args.b.now c.args.db.now c.args.y)
+  no-descs (result_of c.args.o c.args.x c.args.y)
       c.args.ds.now,
-  no_chunk (result_of c.args.o c.args.a.now c.args.da.now c.args.x c.args.b.now c.args.db.now c.args.y)
+  no_chunk (result_of c.args.o c.args.x c.args.y)
       c.args.out.now c.args.to,
 )
 
 pub chunk_end-e-requires : goal.chunk_end-e-requires
 chunk_end-e-requires c =
-    (c.loop-k-test.true, c.requires.1)
+    (c.loop-k-test.true, c.requires.0)
 
 pub gather-q-requires : goal.gather-q-requires
 gather-q-requires c = (
-  c.requires.0,
   c.loop-k.invariant.1,
   omega (arith, c.chunk_end-e.ensures.0),
-  omega (arith, c.chunk_end-e.ensures.1, c.requires.1),
-  omega (arith, c.chunk_end-e.ensures.1, c.requires.2, c.loop-k.invariant.2),
+  omega (arith, c.chunk_end-e.ensures.1, c.requires.0),
+  omega (arith, c.chunk_end-e.ensures.1, c.requires.1, c.loop-k.invariant.2),
   roomy-count _ c.loop-k.k c.chunk_end-e.result _ _ c.loop-k.invariant.1.bytes
-      (omega (arith, c.chunk_end-e.ensures.2, c.requires.3, c.loop-k.invariant.3)),
+      (omega (arith, c.chunk_end-e.ensures.2, c.requires.2, c.loop-k.invariant.3)),
 )
 
 pub overflow_sub-q : goal.overflow_sub-q
@@ -47,11 +45,11 @@ pub overflow_add-to : goal.overflow_add-to
 overflow_add-to c =
     omega (
       arith,
-      c.well_formed.1.1.1.1.1.1.1.1.1.1.0,
-      c.requires.4,
+      c.well_formed.1.1.1.1.1.1.0,
+      c.requires.3,
       c.loop-k.invariant.1.bytes,
       cells-within
-          (result_of c.args.o c.args.a.now c.args.da.now c.args.x c.args.b.now c.args.db.now c.args.y)
+          (result_of c.args.o c.args.x c.args.y)
           c.loop-k.k c.args.n c.loop-k.invariant.0,
     )
 
@@ -61,11 +59,11 @@ copy_part-requires c = (
   omega (
     arith,
     c.gather-q.ensures.grown,
-    c.requires.4,
+    c.requires.3,
     c.loop-k.invariant.4,
     c.gather-q.ensures.reached.bytes,
     cells-within
-        (result_of c.args.o c.args.a.now c.args.da.now c.args.x c.args.b.now c.args.db.now c.args.y)
+        (result_of c.args.o c.args.x c.args.y)
         c.chunk_end-e.result c.args.n c.chunk_end-e.ensures.1,
   ),
 )
@@ -81,16 +79,15 @@ loop-k-preserved c = (
   c.gather-q.auto.ds ∙ c.loop-k.invariant.2,
   c.gather-q.auto.body ∙ c.loop-k.invariant.3,
   c.copy_part.auto.out ∙ c.loop-k.invariant.4,
-  c.gather-q.ensures.descs c.args.ds.now (omega (arith, c.chunk_end-e.ensures.1, c.requires.2)) c.loop-k.invariant.5,
+  c.gather-q.ensures.descs c.args.ds.now (omega (arith, c.chunk_end-e.ensures.1, c.requires.1)) c.loop-k.invariant.5,
   chunk-turn c.args.out.now c.loop-k.out _ _ c.gather-q.new.body _ c.args.to
       c.loop-k.p.size (c.gather-q.result.size - c.loop-k.p.size) c.loop-k.invariant.6 c.loop-k.invariant.1.bytes
       c.copy_part.ensures c.gather-q.ensures.bytes
       (omega (
         arith,
-        c.requires.4,
+        c.requires.3,
         cells-within
-            (result_of c.args.o c.args.a.now c.args.da.now c.args.x c.args.b.now c.args.db.now
-            c.args.y)
+            (result_of c.args.o c.args.x c.args.y)
             c.chunk_end-e.result c.args.n c.chunk_end-e.ensures.1,
       )),
 )
@@ -106,7 +103,7 @@ shape_of-out c = c.loop-k.invariant.4
 
 pub returns : goal.returns
 returns c =
-    all-passed (result_of c.args.o c.args.a.now c.args.da.now c.args.x c.args.b.now c.args.db.now c.args.y)
-    c.args.da.now c.args.x c.args.db.now c.args.y c.args.n c.loop-k.k c.args.ds.now c.loop-k.ds
+    all-passed (result_of c.args.o c.args.x c.args.y)
+    c.args.x c.args.y c.args.n c.loop-k.k c.args.ds.now c.loop-k.ds
     c.args.out.now c.loop-k.out c.args.to c.loop-k.p (omega (arith, c.loop-k-test.false, c.loop-k.invariant.0))
     c.loop-k.invariant.1 c.loop-k.invariant.5 c.loop-k.invariant.6

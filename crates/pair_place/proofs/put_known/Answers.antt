@@ -16,35 +16,30 @@ use Rattle.pair_place.proofs.put_known.Goals as goal
 
 pub put_chunkwise-p-requires : goal.put_chunkwise-p-requires
 put_chunkwise-p-requires c = (
-  c.requires.0,
-  omega (arith, c.requires.1, c.requires.0.first.few, c.requires.0.second.few),
+  omega (arith, c.requires.0, c.args.x.sound.few, c.args.y.sound.few),
+  c.requires.1,
   c.requires.2,
-  c.requires.3,
   omega (
     arith,
-    c.requires.4,
-    form-room c.args.o c.args.a.now c.args.da.now c.args.x c.args.b.now c.args.db.now c.args.y
-        c.requires.0 c.args.n c.requires.1,
+    c.requires.3,
+    form-room c.args.o c.args.x c.args.y c.args.n c.requires.0,
   ),
 )
 
 pub slice_bounds-put_before-end-2 : goal.slice_bounds-put_before-end-2
 slice_bounds-put_before-end-2 c =
     sym
-    (trimmed-long c.args.o c.args.a.now c.args.da.now c.args.x c.args.b.now c.args.db.now c.args.y
-    c.requires.0 c.put_chunkwise-p.new.ds _ c.args.n c.trim-m.result
-    c.put_chunkwise-p.result.card c.requires.1 c.put_chunkwise-p.ensures.descs c.trim-m.ensures
+    (trimmed-long c.args.o c.args.x c.args.y c.put_chunkwise-p.new.ds _ c.args.n c.trim-m.result
+    c.put_chunkwise-p.result.card c.requires.0 c.put_chunkwise-p.ensures.descs c.trim-m.ensures
     c.put_chunkwise-p.ensures.reached.members)
 
 pub put_before-requires : goal.put_before-requires
 put_before-requires c =
-    let d = describes c.args.o c.args.a.now c.args.da.now c.args.x c.args.b.now c.args.db.now c.args.y
-    c.requires.0
+    let d = describes c.args.o c.args.x c.args.y
     c.put_chunkwise-p.new.ds _ c.args.n c.trim-m.result c.put_chunkwise-p.result.card
-    c.requires.1 c.put_chunkwise-p.ensures.descs c.trim-m.ensures c.put_chunkwise-p.ensures.reached.members in
-    let w = trimmed-bytes c.args.o c.args.a.now c.args.da.now c.args.x c.args.b.now c.args.db.now c.args.y
-    c.requires.0 c.put_chunkwise-p.new.ds _ c.args.n c.trim-m.result
-    c.put_chunkwise-p.result.card c.requires.1 c.put_chunkwise-p.ensures.descs c.trim-m.ensures
+    c.requires.0 c.put_chunkwise-p.ensures.descs c.trim-m.ensures c.put_chunkwise-p.ensures.reached.members in
+    let w = trimmed-bytes c.args.o c.args.x c.args.y c.put_chunkwise-p.new.ds _ c.args.n c.trim-m.result
+    c.put_chunkwise-p.result.card c.requires.0 c.put_chunkwise-p.ensures.descs c.trim-m.ensures
     c.put_chunkwise-p.ensures.reached.members in
     let e : c.put_chunkwise-p.result.size ≡ sum size_of
     (take c.trim-m.result c.put_chunkwise-p.new.ds) = c.put_chunkwise-p.ensures.reached.bytes
@@ -52,23 +47,21 @@ put_before-requires c =
       few _ _ _ _ d,
       fine _ _ _ _ d,
       e,
-      omega (arith, e, size _ _ _ _ d, c.requires.4, c.put_chunkwise-p.auto.out),
+      omega (arith, e, size _ _ _ _ d, c.requires.3, c.put_chunkwise-p.auto.out),
     )
 
 pub returns : goal.returns
 returns c =
-    let d = describes c.args.o c.args.a.now c.args.da.now c.args.x c.args.b.now c.args.db.now c.args.y
-    c.requires.0
+    let d = describes c.args.o c.args.x c.args.y
     c.put_chunkwise-p.new.ds _ c.args.n c.trim-m.result c.put_chunkwise-p.result.card
-    c.requires.1 c.put_chunkwise-p.ensures.descs c.trim-m.ensures c.put_chunkwise-p.ensures.reached.members in
-    let w = trimmed-bytes c.args.o c.args.a.now c.args.da.now c.args.x c.args.b.now c.args.db.now c.args.y
-    c.requires.0 c.put_chunkwise-p.new.ds _ c.args.n c.trim-m.result
-    c.put_chunkwise-p.result.card c.requires.1 c.put_chunkwise-p.ensures.descs c.trim-m.ensures
+    c.requires.0 c.put_chunkwise-p.ensures.descs c.trim-m.ensures c.put_chunkwise-p.ensures.reached.members in
+    let w = trimmed-bytes c.args.o c.args.x c.args.y c.put_chunkwise-p.new.ds _ c.args.n c.trim-m.result
+    c.put_chunkwise-p.result.card c.requires.0 c.put_chunkwise-p.ensures.descs c.trim-m.ensures
     c.put_chunkwise-p.ensures.reached.members in
     let e : c.put_chunkwise-p.result.size
     ≡ sum size_of (take c.trim-m.result c.put_chunkwise-p.new.ds) =
     c.put_chunkwise-p.ensures.reached.bytes ∙ ap length w ∙ sym (cells-sum _ _ _ _ d) in
     placed-form _ _ _ _ d c.args.out.now c.put_chunkwise-p.new.out _
-    c.put_chunkwise-p.result.size _ e c.requires.4
+    c.put_chunkwise-p.result.size _ e c.requires.3
     (c.put_chunkwise-p.ensures.bytes ∙ ap (λ (z : List ℕ). written c.args.out.now 6 z) w) c.put_before.ensures.1
     c.put_before.ensures.0

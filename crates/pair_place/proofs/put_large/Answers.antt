@@ -14,48 +14,43 @@ use Rattle.pair_place.proofs.put_large.Goals as goal
 pub put_through-requires : goal.put_through-requires
 put_through-requires c = (
   c.requires.0,
-  c.requires.1,
-  room c.args.n 8192 (omega (arith, c.requires.1, c.requires.0.first.few, c.requires.0.second.few)),
-  roomy-bytes c.args.o c.args.a.now c.args.da.now c.args.x c.args.b.now c.args.db.now c.args.y c.requires.0
-      c.args.n _ (omega (arith, c.requires.2, c.if-most-le8160.true, length-replicate {A = ℕ} 8192 0)),
+  room c.args.n 8192 (omega (arith, c.requires.0, c.args.x.sound.few, c.args.y.sound.few)),
+  roomy-bytes c.args.o c.args.x c.args.y
+      c.args.n _ (omega (arith, c.requires.1, c.if-most-le8160.true, length-replicate {A = ℕ} 8192 0)),
 )
 
 pub bound-requires : goal.bound-requires
 bound-requires c = (
-  omega (arith, c.requires.1, c.requires.0.first.few, c.requires.0.second.few),
-  omega (arith, c.requires.2, side-most _ _ c.args.x c.requires.0.first, side-most _ _ c.args.y c.requires.0.second),
+  omega (arith, c.requires.0, c.args.x.sound.few, c.args.y.sound.few),
+  omega (arith, c.requires.1, side-most c.args.x, side-most c.args.y),
 )
 
 pub put_known-requires : goal.put_known-requires
 put_known-requires c = (
   c.requires.0,
-  c.requires.1,
-  room c.args.n 8192 (omega (arith, c.requires.1, c.requires.0.first.few, c.requires.0.second.few)),
+  room c.args.n 8192 (omega (arith, c.requires.0, c.args.x.sound.few, c.args.y.sound.few)),
   room 8192 8192 (omega arith),
   omega (
     arith,
     c.if-bound-out.true,
     c.bound.ensures,
-    form-most c.args.o c.args.a.now c.args.da.now c.args.x c.args.b.now c.args.db.now c.args.y
-        c.requires.0 c.args.n c.requires.1 c.args.most c.requires.2,
+    form-most c.args.o c.args.x c.args.y c.args.n c.requires.0 c.args.most c.requires.1,
   ),
 )
 
 pub form_length-requires : goal.form_length-requires
 form_length-requires c = (
   c.requires.0,
-  c.requires.1,
-  room c.args.n 8192 (omega (arith, c.requires.1, c.requires.0.first.few, c.requires.0.second.few)),
+  room c.args.n 8192 (omega (arith, c.requires.0, c.args.x.sound.few, c.args.y.sound.few)),
 )
 
 pub put_known-requires-then-form_length-out : goal.put_known-requires-then-form_length-out
 put_known-requires-then-form_length-out c = (
   c.requires.0,
-  c.requires.1,
   omega (
     arith,
     c.form_length.auto.ds,
-    room c.args.n 8192 (omega (arith, c.requires.1, c.requires.0.first.few, c.requires.0.second.few)),
+    room c.args.n 8192 (omega (arith, c.requires.0, c.args.x.sound.few, c.args.y.sound.few)),
   ),
   room 8192 8192 (omega arith),
   omega (arith, c.if-form_length-out.true, c.form_length.ensures),
@@ -63,5 +58,5 @@ put_known-requires-then-form_length-out c = (
 
 pub returns : goal.returns
 returns c =
-    refuse13 (form (result_of c.args.o c.args.a.now c.args.da.now c.args.x c.args.b.now c.args.db.now c.args.y))
+    refuse13 (form (result_of c.args.o c.args.x c.args.y))
     c.args.out.now (omega (arith, c.if-form_length-out.false, c.form_length.ensures))

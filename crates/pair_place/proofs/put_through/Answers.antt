@@ -10,81 +10,76 @@ use Rattle.pair_place.proofs.put_through.Goals as goal
 
 pub gather-g-requires : goal.gather-g-requires
 gather-g-requires c = (
-  c.requires.0,
-  starts c.args.o c.args.a.now c.args.da.now c.args.x c.args.b.now c.args.db.now c.args.y _ c.requires.0
-      refl refl refl refl,
+  starts c.args.o c.args.x c.args.y _ refl refl refl refl,
   omega arith,
-  omega (arith, c.requires.1, c.requires.0.first.few, c.requires.0.second.few),
+  omega (arith, c.requires.0, c.args.x.sound.few, c.args.y.sound.few),
+  c.requires.1,
   c.requires.2,
-  c.requires.3,
 )
 
 pub slice_bounds-put_form-end-2 : goal.slice_bounds-put_form-end-2
 slice_bounds-put_form-end-2 c =
     let g = gathered-all
-    (result_of c.args.o c.args.a.now c.args.da.now c.args.x c.args.b.now c.args.db.now c.args.y)
-    c.args.da.now c.args.x c.args.db.now c.args.y c.args.n _ c.args.ds.now
+    (result_of c.args.o c.args.x c.args.y)
+    c.args.x c.args.y c.args.n _ c.args.ds.now
     c.gather-g.new.ds c.gather-g.new.body _
-    c.gather-g.ensures refl c.requires.2 in
+    c.gather-g.ensures refl c.requires.1 in
     sym
-    (trimmed-long c.args.o c.args.a.now c.args.da.now c.args.x c.args.b.now c.args.db.now c.args.y
-    c.requires.0 c.gather-g.new.ds _ c.args.n c.trim-m.result c.gather-g.result.card
-    c.requires.1 g.0 c.trim-m.ensures c.gather-g.ensures.reached.members)
+    (trimmed-long c.args.o c.args.x c.args.y c.gather-g.new.ds _ c.args.n c.trim-m.result c.gather-g.result.card
+    c.requires.0 g.0 c.trim-m.ensures c.gather-g.ensures.reached.members)
 
 pub slice_bounds-put_form-end-3 : goal.slice_bounds-put_form-end-3
 slice_bounds-put_form-end-3 c =
     let g = gathered-all
-    (result_of c.args.o c.args.a.now c.args.da.now c.args.x c.args.b.now c.args.db.now c.args.y)
-    c.args.da.now c.args.x c.args.db.now c.args.y c.args.n _ c.args.ds.now
+    (result_of c.args.o c.args.x c.args.y)
+    c.args.x c.args.y c.args.n _ c.args.ds.now
     c.gather-g.new.ds c.gather-g.new.body _
-    c.gather-g.ensures refl c.requires.2 in
+    c.gather-g.ensures refl c.requires.1 in
     omega (arith, g.1)
 
 pub slice_bounds-put_form-end-4 : goal.slice_bounds-put_form-end-4
 slice_bounds-put_form-end-4 c =
     let g = gathered-all
-    (result_of c.args.o c.args.a.now c.args.da.now c.args.x c.args.b.now c.args.db.now c.args.y)
-    c.args.da.now c.args.x c.args.db.now c.args.y c.args.n _ c.args.ds.now
+    (result_of c.args.o c.args.x c.args.y)
+    c.args.x c.args.y c.args.n _ c.args.ds.now
     c.gather-g.new.ds c.gather-g.new.body _
-    c.gather-g.ensures refl c.requires.2 in
+    c.gather-g.ensures refl c.requires.1 in
     sym (length-take-le c.gather-g.result.size _ g.1)
 
 pub put_form-requires : goal.put_form-requires
 put_form-requires c =
     let g = gathered-all
-    (result_of c.args.o c.args.a.now c.args.da.now c.args.x c.args.b.now c.args.db.now c.args.y)
-    c.args.da.now c.args.x c.args.db.now c.args.y c.args.n _ c.args.ds.now
+    (result_of c.args.o c.args.x c.args.y)
+    c.args.x c.args.y c.args.n _ c.args.ds.now
     c.gather-g.new.ds c.gather-g.new.body _
-    c.gather-g.ensures refl c.requires.2 in
+    c.gather-g.ensures refl c.requires.1 in
     record {
-      set = result_of c.args.o c.args.a.now c.args.da.now c.args.x c.args.b.now c.args.db.now c.args.y;
+      set = result_of c.args.o c.args.x c.args.y;
       formed = record {
-        describes = describes c.args.o c.args.a.now c.args.da.now c.args.x c.args.b.now c.args.db.now
-            c.args.y
-            c.requires.0 c.gather-g.new.ds _ c.args.n c.trim-m.result c.gather-g.result.card
-            c.requires.1 g.0 c.trim-m.ensures c.gather-g.ensures.reached.members;
+        describes = describes c.args.o c.args.x c.args.y c.gather-g.new.ds _ c.args.n c.trim-m.result
+            c.gather-g.result.card
+            c.requires.0 g.0 c.trim-m.ensures c.gather-g.ensures.reached.members;
         bytes = g.2
-            ∙ trimmed-bytes c.args.o c.args.a.now c.args.da.now c.args.x c.args.b.now c.args.db.now c.args.y
-            c.requires.0 c.gather-g.new.ds _ c.args.n c.trim-m.result c.gather-g.result.card
-            c.requires.1 g.0 c.trim-m.ensures c.gather-g.ensures.reached.members;
+            ∙ trimmed-bytes c.args.o c.args.x c.args.y c.gather-g.new.ds _ c.args.n c.trim-m.result
+            c.gather-g.result.card
+            c.requires.0 g.0 c.trim-m.ensures c.gather-g.ensures.reached.members;
       };
     }
 
 pub returns : goal.returns
 returns c =
     let g = gathered-all
-    (result_of c.args.o c.args.a.now c.args.da.now c.args.x c.args.b.now c.args.db.now c.args.y)
-    c.args.da.now c.args.x c.args.db.now c.args.y c.args.n _ c.args.ds.now
+    (result_of c.args.o c.args.x c.args.y)
+    c.args.x c.args.y c.args.n _ c.args.ds.now
     c.gather-g.new.ds c.gather-g.new.body _
-    c.gather-g.ensures refl c.requires.2 in
+    c.gather-g.ensures refl c.requires.1 in
     c.put_form.ensures
-    (result_of c.args.o c.args.a.now c.args.da.now c.args.x c.args.b.now c.args.db.now c.args.y)
+    (result_of c.args.o c.args.x c.args.y)
     (record {
-      describes = describes c.args.o c.args.a.now c.args.da.now c.args.x c.args.b.now c.args.db.now c.args.y
-          c.requires.0 c.gather-g.new.ds _ c.args.n c.trim-m.result c.gather-g.result.card
-          c.requires.1 g.0 c.trim-m.ensures c.gather-g.ensures.reached.members;
+      describes = describes c.args.o c.args.x c.args.y c.gather-g.new.ds _ c.args.n c.trim-m.result
+          c.gather-g.result.card
+          c.requires.0 g.0 c.trim-m.ensures c.gather-g.ensures.reached.members;
       bytes = g.2
-          ∙ trimmed-bytes c.args.o c.args.a.now c.args.da.now c.args.x c.args.b.now c.args.db.now c.args.y
-          c.requires.0 c.gather-g.new.ds _ c.args.n c.trim-m.result c.gather-g.result.card
-          c.requires.1 g.0 c.trim-m.ensures c.gather-g.ensures.reached.members;
+          ∙ trimmed-bytes c.args.o c.args.x c.args.y c.gather-g.new.ds _ c.args.n c.trim-m.result c.gather-g.result.card
+          c.requires.0 g.0 c.trim-m.ensures c.gather-g.ensures.reached.members;
     })

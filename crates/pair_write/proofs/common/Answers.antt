@@ -1,7 +1,7 @@
 -- The invariant: m is how many of the bytes passed have their bit set; each adds its bit.
 -- Assumes nothing.
 use mathlib.Core.Path.{◌∙◌, ◌≡◌, refl}
-use Prim.Native.Nat.{◌+◌, ◌-◌}
+use Prim.Native.Nat.{◌+◌}
 use native.Mathlib.Omega.{arith}
 use Rattle.pair_write.proofs.Counting.{common-start, common-more}
 use Rattle.pair_write.proofs.Filtered.{bit_at}
@@ -37,14 +37,6 @@ overflow_cast-m c = omega (arith, c.bit_of.ensures)
 pub overflow_add-m : goal.overflow_add-m
 overflow_add-m c =
     omega (arith, c.bit_of.ensures, c.loop-i.invariant.1, c.loop-i-test.true, c.requires.2)
-
-pub overflow_add-i : goal.overflow_add-i
-overflow_add-i c =
-    omega (arith, c.loop-i-test.true, c.ranges.n)
-
-pub loop-i-smaller : goal.loop-i-smaller
-loop-i-smaller c =
-    omega (arith, c.loop-i-test.true)
 
 pub loop-i-preserved : goal.loop-i-preserved
 loop-i-preserved c = (

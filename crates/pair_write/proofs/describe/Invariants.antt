@@ -13,13 +13,13 @@ use Rattle.pair_write.proofs.describe.Given as goal
 abbrev pub invariant-loop-k : goal.invariant-loop-k
 invariant-loop-k l =
     (l.k ≤ l.n)
-    × (l.at ≡ place_at l.da l.x l.k)
-    × (l.bt ≡ place_at l.db l.y l.k)
+    × (l.at ≡ place_at l.x l.k)
+    × (l.bt ≡ place_at l.y l.k)
     × (length l.ds ≡ length l.initial.ds)
     × (length l.marks ≡ 256)
     × ((first : List ℕ) → l.n ≤ length first
-    → l.initial.ds ≡ written first 0 (descs_to (result_of l.o l.a l.da l.x l.b l.db l.y) 0 ++ replicate (l.n - 0) 0)
-    → l.ds ≡ written first 0 (descs_to (result_of l.o l.a l.da l.x l.b l.db l.y) l.k ++ replicate (l.n - l.k) 0))
+    → l.initial.ds ≡ written first 0 (descs_to (result_of l.o l.x l.y) 0 ++ replicate (l.n - 0) 0)
+    → l.ds ≡ written first 0 (descs_to (result_of l.o l.x l.y) l.k ++ replicate (l.n - l.k) 0))
     × Fresh l.marks (l.k + 1)
 
 abbrev pub decreases-loop-k : goal.decreases-loop-k

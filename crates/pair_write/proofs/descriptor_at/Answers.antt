@@ -1,14 +1,10 @@
--- The definition, case by case.
+-- What stands at k, or 0.
 -- Assumes nothing.
-use borrow.Author.Tests.{lt-ltb, le-ltb}
+use Rattle.std.proofs.Common.{arith}
+use Rattle.std.proofs.lemmas.Grind.{common_steps}
 use Rattle.pair_write.specs.Sides.{desc_at}
-use mathlib.Core.Path.{sym}
 use Rattle.pair_write.proofs.descriptor_at.Goals as goal
-
-pub returns-then-k-n : goal.returns-then-k-n
-unfolding desc_at
-returns-then-k-n c = sym (rw (lt-ltb c.args.k c.args.n c.if-k-n.true))
 
 pub returns : goal.returns
 unfolding desc_at
-returns c = sym (rw (le-ltb c.args.k c.args.n c.if-k-n.false))
+returns c = grind (arith, common_steps)

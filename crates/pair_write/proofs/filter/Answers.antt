@@ -1,7 +1,7 @@
 -- The invariant: of the members passed those that are kept stand at out[to] and on.
 -- Assumes nothing.
 use mathlib.Core.Path.{◌≡◌, refl, ◌∙◌}
-use Prim.Native.Nat.{◌+◌, ◌-◌}
+use Prim.Native.Nat.{◌+◌}
 use native.Mathlib.Omega.{arith}
 use lib.ListN.{length-set}
 use lib.Dec.{eqb}
@@ -49,20 +49,13 @@ pub overflow_add-m : goal.overflow_add-m
 overflow_add-m c =
     omega (arith, c.loop-i.invariant.1, c.loop-i-test.true, c.ranges.n, byte_le (eqb c.bit_of-z.result c.args.want))
 
-pub overflow_add-i : goal.overflow_add-i
-overflow_add-i c =
-    omega (arith, c.loop-i-test.true, c.ranges.n)
-
-pub loop-i-smaller : goal.loop-i-smaller
-loop-i-smaller c =
-    omega (arith, c.loop-i-test.true)
-
 pub loop-i-preserved : goal.loop-i-preserved
 loop-i-preserved c =
     let f = filter-turn c.args.s.now c.args.at c.loop-i.i c.args.t.now c.args.start c.args.want c.args.out.now
     c.loop-i.out c.args.to c.loop-i.m _ c.bit_of-z.result (omega (arith, c.requires.0, c.loop-i-test.true)) refl
     (c.bit_of-z.ensures ∙ bit_at c.args.t.now c.args.start _)
-    (omega (arith, c.requires.2, c.loop-i-test.true, c.loop-i.invariant.1, c.loop-i.invariant.2)) c.loop-i.invariant.3 c.loop-i.invariant.4 in (
+    (omega (arith, c.requires.2, c.loop-i-test.true, c.loop-i.invariant.1, c.loop-i.invariant.2)) c.loop-i.invariant.3
+    c.loop-i.invariant.4 in (
       omega (arith, c.loop-i-test.true),
       omega (arith, c.loop-i.invariant.1, byte_le (eqb c.bit_of-z.result c.args.want)),
       simp length-set c.loop-i.invariant.2,

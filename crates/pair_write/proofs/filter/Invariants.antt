@@ -2,7 +2,7 @@
 -- Assumes nothing.
 use mathlib.Core.List.{◌++◌}
 use mathlib.Core.Path.{◌≡◌}
-use Prim.Native.Nat.{◌+◌, ◌-◌, ◌≤◌}
+use Prim.Native.Nat.{◌+◌, ◌≤◌}
 use lib.ListN.{take, length}
 use Rattle.pair_write.specs.Sides.{kept}
 use Rattle.pair_write.proofs.filter.Given as goal
@@ -14,6 +14,3 @@ invariant-loop-i l =
     × (length l.out ≡ length l.initial.out)
     × (l.m ≡ length (kept l.s l.at l.i l.t l.start l.want))
     × (take (l.to + l.m) l.out ≡ take l.to l.initial.out ++ kept l.s l.at l.i l.t l.start l.want)
-
-abbrev pub decreases-loop-i : goal.decreases-loop-i
-decreases-loop-i l = l.n - l.i

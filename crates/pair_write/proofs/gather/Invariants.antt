@@ -18,17 +18,17 @@ invariant-loop-k l =
     × (l.k ≤ l.n)
     × (l.card ≤ l.k * 256)
     × (l.t ≤ length l.initial.body)
-    × (l.at ≡ place_at l.da l.x l.k)
-    × (l.bt ≡ place_at l.db l.y l.k)
+    × (l.at ≡ place_at l.x l.k)
+    × (l.bt ≡ place_at l.y l.k)
     × (length l.ds ≡ length l.initial.ds)
     × (length l.body ≡ length l.initial.body)
-    × (l.card ≡ length (keep (λ z. mem z (result_of l.o l.a l.da l.x l.b l.db l.y)) (from 0 (l.k * 256))))
-    × (l.p.size + l.t ≡ length (write_containers (map (cut (result_of l.o l.a l.da l.x l.b l.db l.y)) (from 0 l.k))))
+    × (l.card ≡ length (keep (λ z. mem z (result_of l.o l.x l.y)) (from 0 (l.k * 256))))
+    × (l.p.size + l.t ≡ length (write_containers (map (cut (result_of l.o l.x l.y)) (from 0 l.k))))
     × ((first : List ℕ) → l.n ≤ length first
-    → l.initial.ds ≡ written first 0 (descs_to (result_of l.o l.a l.da l.x l.b l.db l.y) l.start ++ replicate (l.n - l.start) 0)
-    → l.ds ≡ written first 0 (descs_to (result_of l.o l.a l.da l.x l.b l.db l.y) l.k ++ replicate (l.n - l.k) 0))
-    × (write_containers (map (cut (result_of l.o l.a l.da l.x l.b l.db l.y)) (from 0 l.start)) ++ take l.t l.body
-    ≡ write_containers (map (cut (result_of l.o l.a l.da l.x l.b l.db l.y)) (from 0 l.k)))
+    → l.initial.ds ≡ written first 0 (descs_to (result_of l.o l.x l.y) l.start ++ replicate (l.n - l.start) 0)
+    → l.ds ≡ written first 0 (descs_to (result_of l.o l.x l.y) l.k ++ replicate (l.n - l.k) 0))
+    × (write_containers (map (cut (result_of l.o l.x l.y)) (from 0 l.start)) ++ take l.t l.body
+    ≡ write_containers (map (cut (result_of l.o l.x l.y)) (from 0 l.k)))
 
 abbrev pub decreases-loop-k : goal.decreases-loop-k
 decreases-loop-k l = l.n - l.k

@@ -1,7 +1,7 @@
 -- The invariant: the bytes passed have the stamp as their mark, and all others the mark that they had.
 -- Assumes nothing.
 use mathlib.Core.Path.{◌≡◌, refl}
-use Prim.Native.Nat.{◌+◌, ◌-◌}
+use Prim.Native.Nat.{◌+◌}
 use native.Mathlib.Omega.{arith}
 use lib.ListN.{length-set, drop}
 use Rattle.pair_write.proofs.Marking.{marks-start, marks-more}
@@ -29,13 +29,6 @@ offset_bounds-marks-s c =
 pub bounds-marks-s : goal.bounds-marks-s
 bounds-marks-s c =
     omega (arith, c.requires.1, c.loop-i.invariant.1, c.type_inv.s (c.args.at + c.loop-i.i))
-
-pub overflow_add-i : goal.overflow_add-i
-overflow_add-i c =
-    omega (arith, c.loop-i-test.true, c.ranges.n)
-
-pub loop-i-smaller : goal.loop-i-smaller
-loop-i-smaller c = omega (arith, c.loop-i-test.true)
 
 pub loop-i-preserved : goal.loop-i-preserved
 loop-i-preserved c = (

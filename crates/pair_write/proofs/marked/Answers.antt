@@ -1,7 +1,7 @@
 -- The invariant: m is how many of the bytes passed have the stamp as their mark.
 -- Assumes nothing.
 use mathlib.Core.Path.{◌≡◌, refl}
-use Prim.Native.Nat.{◌+◌, ◌-◌}
+use Prim.Native.Nat.{◌+◌}
 use native.Mathlib.Omega.{arith}
 use lib.ListN.{drop, get_or}
 use lib.Dec.{eqb}
@@ -44,13 +44,6 @@ overflow_add-m-in-loop-i c =
       c.requires.2,
       byte_le (eqb (get_or c.args.marks.now (get_or c.args.s.now (c.args.at + c.loop-i.i) 0) 0) c.args.stamp),
     )
-
-pub overflow_add-i : goal.overflow_add-i
-overflow_add-i c =
-    omega (arith, c.loop-i-test.true, c.ranges.n)
-
-pub loop-i-smaller : goal.loop-i-smaller
-loop-i-smaller c = omega (arith, c.loop-i-test.true)
 
 pub loop-i-preserved : goal.loop-i-preserved
 loop-i-preserved c = (

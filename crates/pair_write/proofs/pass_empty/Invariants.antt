@@ -5,7 +5,7 @@ use Rattle.pair_write.proofs.Skipping.{Empty}
 use Rattle.pair_write.proofs.pass_empty.Given as goal
 
 abbrev pub invariant-loop-i : goal.invariant-loop-i
-invariant-loop-i l = (l.k ≤ l.i) × (l.i ≤ l.n) × Empty l.da l.m l.db l.p l.k l.i
+invariant-loop-i l = (l.k ≤ l.i) × (l.i ≤ l.n) × Empty l.d l.e l.k l.i
 
 abbrev pub decreases-loop-i : goal.decreases-loop-i
 decreases-loop-i l = l.n - l.i

@@ -4,7 +4,7 @@ use Rattle.row_spec.specs.Schema.{blank_column}
 use Rattle.row_codes.specs.Codes.{code_of}
 use Rattle.row_laws.proofs.Mapped.{mapped_next}
 use mathlib.Core.Path.{◌≡◌, refl, ◌∙◌}
-use Prim.Native.Nat.{ℕ, ◌-◌}
+use Prim.Native.Nat.{ℕ}
 use native.Mathlib.Omega.{arith}
 use Rattle.row_codes.proofs.codes_of.Goals as goal
 
@@ -15,7 +15,8 @@ pub loop-i-preserved : goal.loop-i-preserved
 loop-i-preserved c = (
   omega arith,
   length-set c.loop-i.codes c.loop-i.i _ ∙ c.loop-i.invariant.1,
-  mapped_next code_of c.loop-i.codes c.args.sc.columns c.loop-i.i _ blank_column (omega arith) (omega arith) c.loop-i.invariant.2
+  mapped_next code_of c.loop-i.codes c.args.sc.columns c.loop-i.i _ blank_column (omega arith)
+      (omega arith) c.loop-i.invariant.2
       c.code_of.ensures,
 )
 

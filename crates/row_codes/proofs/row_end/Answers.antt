@@ -1,5 +1,5 @@
 -- The walk that is left ends where the whole ends; nulls holds the null bits from column i on. Assumes nothing.
-use Prim.Native.Nat.{◌/◌, ◌%◌, ℕ, ◌+◌, ◌-◌, ◌≤◌, ◌<◌}
+use Prim.Native.Nat.{◌/◌, ◌%◌, ℕ, ◌+◌, ◌≤◌, ◌<◌}
 use borrow.Author.Tests.{leb-true}
 use lib.ListN.{take, drop, length}
 use lib.Dec.{eqb}
@@ -66,16 +66,19 @@ loop-i-init c = (
       (sym c.spare_zero.ensures ∙ c.if-not-spare_zero.false)),
 )
 
-pub returns-in-Refused : goal.returns-in-Refused
+pub returns-in_err-p : goal.returns-in_err-p
 unfolding ceil8
-returns-in-Refused c =
+returns-in_err-p c =
     let cs = take c.args.n c.args.codes.now in
-    let cl : length (take c.args.n c.args.codes.now) ≡ c.args.n = length-take-le c.args.n c.args.codes.now (omega arith) in
+    let cl : length (take c.args.n c.args.codes.now) ≡ c.args.n =
+    length-take-le c.args.n c.args.codes.now (omega arith) in
     let more : c.loop-i.i < length (take c.args.n c.args.codes.now) = omega arith in
     let few : length (take c.args.n c.args.codes.now) ≤ 64 = omega arith in
-    let word : little_at c.args.s.now c.args.at ((c.args.n + 7) / 8) ≡ little_at c.args.s.now c.args.at (ceil8 (length (take c.args.n c.args.codes.now))) = rw cl in
+    let word : little_at c.args.s.now c.args.at ((c.args.n + 7) / 8)
+    ≡ little_at c.args.s.now c.args.at (ceil8 (length (take c.args.n c.args.codes.now))) = rw cl in
     let is : c.span_in-v.result ≡ pick
-    (eqb (little_at c.args.s.now c.args.at ((c.args.n + 7) / 8)) 0) (span_of (drop c.loop-i.i (take c.args.n c.args.codes.now))) 0 =
+    (eqb (little_at c.args.s.now c.args.at ((c.args.n + 7) / 8)) 0)
+    (span_of (drop c.loop-i.i (take c.args.n c.args.codes.now))) 0 =
     rw (
       ← c.little_endian-nulls.ensures.0,
       ←
@@ -92,8 +95,8 @@ returns-in-Refused c =
     ))
     ((c.args.n + 7) / 8) c.args.at c.loop-i.i (omega arith) in
     let g = get_or-take c.args.n c.args.codes.now c.loop-i.i 0 c.loop-i-test.true in
-    let e = sym c.span_end.ensures ∙ c.in-Refused.is in
-    sym
+    let e = sym c.in_err-p.ensures in
+    c.from_residual.ensures ∙ sym
     (spans-refused c.args.s.now cs c.args.at c.loop-i.i c.loop-i.p _ c.span_in-v.result more
     few word is (rw (g, ← b) e))
     ∙ c.loop-i.invariant.2
@@ -102,12 +105,15 @@ pub overflow_add-i : goal.overflow_add-i
 unfolding ceil8
 overflow_add-i c =
     let cs = take c.args.n c.args.codes.now in
-    let cl : length (take c.args.n c.args.codes.now) ≡ c.args.n = length-take-le c.args.n c.args.codes.now (omega arith) in
+    let cl : length (take c.args.n c.args.codes.now) ≡ c.args.n =
+    length-take-le c.args.n c.args.codes.now (omega arith) in
     let more : c.loop-i.i < length (take c.args.n c.args.codes.now) = omega arith in
     let few : length (take c.args.n c.args.codes.now) ≤ 64 = omega arith in
-    let word : little_at c.args.s.now c.args.at ((c.args.n + 7) / 8) ≡ little_at c.args.s.now c.args.at (ceil8 (length (take c.args.n c.args.codes.now))) = rw cl in
+    let word : little_at c.args.s.now c.args.at ((c.args.n + 7) / 8)
+    ≡ little_at c.args.s.now c.args.at (ceil8 (length (take c.args.n c.args.codes.now))) = rw cl in
     let is : c.span_in-v.result ≡ pick
-    (eqb (little_at c.args.s.now c.args.at ((c.args.n + 7) / 8)) 0) (span_of (drop c.loop-i.i (take c.args.n c.args.codes.now))) 0 =
+    (eqb (little_at c.args.s.now c.args.at ((c.args.n + 7) / 8)) 0)
+    (span_of (drop c.loop-i.i (take c.args.n c.args.codes.now))) 0 =
     rw (
       ←
           c.little_endian-nulls.ensures.0,
@@ -124,12 +130,15 @@ pub loop-i-smaller : goal.loop-i-smaller
 unfolding ceil8
 loop-i-smaller c =
     let cs = take c.args.n c.args.codes.now in
-    let cl : length (take c.args.n c.args.codes.now) ≡ c.args.n = length-take-le c.args.n c.args.codes.now (omega arith) in
+    let cl : length (take c.args.n c.args.codes.now) ≡ c.args.n =
+    length-take-le c.args.n c.args.codes.now (omega arith) in
     let more : c.loop-i.i < length (take c.args.n c.args.codes.now) = omega arith in
     let few : length (take c.args.n c.args.codes.now) ≤ 64 = omega arith in
-    let word : little_at c.args.s.now c.args.at ((c.args.n + 7) / 8) ≡ little_at c.args.s.now c.args.at (ceil8 (length (take c.args.n c.args.codes.now))) = rw cl in
+    let word : little_at c.args.s.now c.args.at ((c.args.n + 7) / 8)
+    ≡ little_at c.args.s.now c.args.at (ceil8 (length (take c.args.n c.args.codes.now))) = rw cl in
     let is : c.span_in-v.result ≡ pick
-    (eqb (little_at c.args.s.now c.args.at ((c.args.n + 7) / 8)) 0) (span_of (drop c.loop-i.i (take c.args.n c.args.codes.now))) 0 =
+    (eqb (little_at c.args.s.now c.args.at ((c.args.n + 7) / 8)) 0)
+    (span_of (drop c.loop-i.i (take c.args.n c.args.codes.now))) 0 =
     rw (
       ←
           c.little_endian-nulls.ensures.0,
@@ -146,12 +155,15 @@ pub loop-i-preserved : goal.loop-i-preserved
 unfolding ceil8
 loop-i-preserved c =
     let cs = take c.args.n c.args.codes.now in
-    let cl : length (take c.args.n c.args.codes.now) ≡ c.args.n = length-take-le c.args.n c.args.codes.now (omega arith) in
+    let cl : length (take c.args.n c.args.codes.now) ≡ c.args.n =
+    length-take-le c.args.n c.args.codes.now (omega arith) in
     let more : c.loop-i.i < length (take c.args.n c.args.codes.now) = omega arith in
     let few : length (take c.args.n c.args.codes.now) ≤ 64 = omega arith in
-    let word : little_at c.args.s.now c.args.at ((c.args.n + 7) / 8) ≡ little_at c.args.s.now c.args.at (ceil8 (length (take c.args.n c.args.codes.now))) = rw cl in
+    let word : little_at c.args.s.now c.args.at ((c.args.n + 7) / 8)
+    ≡ little_at c.args.s.now c.args.at (ceil8 (length (take c.args.n c.args.codes.now))) = rw cl in
     let is : c.span_in-v.result ≡ pick
-    (eqb (little_at c.args.s.now c.args.at ((c.args.n + 7) / 8)) 0) (span_of (drop c.loop-i.i (take c.args.n c.args.codes.now))) 0 =
+    (eqb (little_at c.args.s.now c.args.at ((c.args.n + 7) / 8)) 0)
+    (span_of (drop c.loop-i.i (take c.args.n c.args.codes.now))) 0 =
     rw (
       ←
           c.little_endian-nulls.ensures.0,
@@ -172,7 +184,7 @@ loop-i-preserved c =
     c.loop-i-test.true in
     let w = spans-within c.args.s.now cs c.args.at c.loop-i.i c.loop-i.p _
     c.span_in-v.result more few word is in
-    let e = sym c.span_end.ensures ∙ c.in-At.is in (
+    let e = sym c.in_ok-p.ensures in (
       omega (arith, c.span_columns-i.ensures, w.1),
       rw c.span_columns-i.ensures
           (ap (λ (x : ℕ). x / 2) c.loop-i.invariant.1 ∙ nulls-next c.args.s.now cs c.args.at c.loop-i.i c.loop-i.p _
@@ -188,4 +200,5 @@ loop-i-preserved c =
 pub returns : goal.returns
 returns c =
     let cl = length-take-le c.args.n c.args.codes.now (omega arith) in
-    sym (codes-over c.args.s.now (take c.args.n c.args.codes.now) c.args.at c.loop-i.i c.loop-i.p (omega arith)) ∙ c.loop-i.invariant.2
+    sym (codes-over c.args.s.now (take c.args.n c.args.codes.now) c.args.at c.loop-i.i c.loop-i.p (omega arith))
+    ∙ c.loop-i.invariant.2

@@ -19,7 +19,8 @@ loop-i-init c = (
 pub longer_span-span-requires : goal.longer_span-span-requires
 longer_span-span-requires c =
     let cl = length-take-le c.args.n
-    c.args.codes.now (omega arith) in let d = length-drop c.loop-i.i (take c.args.n c.args.codes.now) in let b = span_small
+    c.args.codes.now (omega arith) in let d = length-drop c.loop-i.i (take c.args.n c.args.codes.now) in
+    let b = span_small
     (drop c.loop-i.i (take c.args.n c.args.codes.now)) (omega arith) in rw c.loop-i.invariant.2 b
 
 pub loop-i-preserved : goal.loop-i-preserved
@@ -28,7 +29,8 @@ loop-i-preserved c =
     let m : c.loop-i.i ≤ length (take c.args.n c.args.codes.now) = omega arith in
     let g = get_or-take c.args.n c.args.codes.now (c.loop-i.i - 1) 0 (omega arith) in
     let b = span-before (take c.args.n c.args.codes.now) c.loop-i.spans c.loop-i.i c.loop-i-test.true m in
-    let v : c.longer_span-span.result ≡ span_of (drop (c.loop-i.i - 1) (take c.args.n c.args.codes.now)) = c.longer_span-span.ensures ∙
+    let v : c.longer_span-span.result ≡ span_of (drop (c.loop-i.i - 1) (take c.args.n c.args.codes.now)) =
+    c.longer_span-span.ensures ∙
     rw (g, ← c.loop-i.invariant.2) at b in (
       omega arith,
       length-set c.loop-i.spans (c.loop-i.i - 1) _ ∙ c.loop-i.invariant.1,

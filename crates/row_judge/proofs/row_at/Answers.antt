@@ -1,18 +1,19 @@
--- The fields read so far are a list that the loop keeps in its invariant alone; the field asked for is kept of it. Assumes nothing.
+-- The fields read so far are a list that the loop keeps in its invariant alone; the field asked for is kept of it.
+-- Assumes nothing.
 use mathlib.Core.List.{[], ◌++◌, ◌∷◌}
 use borrow.Author.Tests.{leb-true}
 use lib.ListN.{length, length-append}
 use lib.Seq.{length-take-le, get_or-take}
-use Prim.Native.Nat.{◌/◌, ◌+◌, ◌-◌, ◌<◌}
+use Prim.Native.Nat.{◌/◌, ◌+◌, ◌<◌}
+use Rattle.common.specs.Outcome.{found}
 use Rattle.common.specs.Bytes.{ceil8}
 use Rattle.row_spec.specs.Schema.{blank_column, columns_of}
-use Rattle.row_spec.specs.Block.{row}
 use Rattle.row_spec.specs.declared.Field.{Field}
 use Rattle.row_spec.specs.declared.Field.TheVariants.{Null}
-use Rattle.row_laws.proofs.Rows.{row-short, row-spare, row-fields, fields-end, kept_next}
+use Rattle.row_laws.proofs.Rows.{row-short, row-spare, row-fields, fields-more, fields-end, kept_next}
+use Rattle.row_spec.specs.Read.{read}
 use Rattle.row_judge.specs.Told.{row_told}
-use Rattle.row_judge.specs.declared.RowRead.TheVariants as read
-use Rattle.row_judge.proofs.Stepping.{step-bad, step-more}
+use Rattle.row_judge.proofs.Telling.{fields-refused}
 use mathlib.Core.Path.{refl, sym, ap, ◌∙◌}
 use native.Mathlib.Omega.{arith}
 use Rattle.row_judge.proofs.row_at.Goals as goal
@@ -44,83 +45,73 @@ returns-then-not-spare_zero c =
     (sym c.has.ensures ∙ c.if-not-has.false)
     (sym c.spare_zero.ensures ∙ c.if-not-spare_zero.true)))
 
-pub overflow_add-here : goal.overflow_add-here
-overflow_add-here c =
+pub overflow_add-next : goal.overflow_add-next
+overflow_add-next c =
     omega (
       arith,
       leb-true (c.args.at + (c.args.sc.count + 7) / 8) (length c.args.s.now)
           (sym c.has.ensures ∙ c.if-not-has.false),
     )
 
-pub loop-here-init : goal.loop-here-init
+pub loop-i-init : goal.loop-i-init
 unfolding ceil8
-loop-here-init c = (
-  omega arith,
-  refl,
+loop-i-init c = (
+  [],
   (
-    [],
+    refl,
     (
       refl,
-      (
-        refl,
-        sym
-            (row-fields c.args.s.now (columns_of c.args.sc) c.args.at c.args.sc.count
-            (length-take-le c.args.sc.count c.args.sc.columns (omega arith))
-            (sym c.has.ensures ∙ c.if-not-has.false)
-            (sym c.spare_zero.ensures ∙ c.if-not-spare_zero.false)),
-      ),
+      sym
+          (row-fields c.args.s.now (columns_of c.args.sc) c.args.at c.args.sc.count
+          (length-take-le c.args.sc.count c.args.sc.columns (omega arith))
+          (sym c.has.ensures ∙ c.if-not-has.false)
+          (sym c.spare_zero.ensures ∙ c.if-not-spare_zero.false)),
     ),
   ),
 )
 
-pub step-requires : goal.step-requires
-step-requires c =
+pub field_at-requires : goal.field_at-requires
+field_at-requires c =
     let room = leb-true (c.args.at + (c.args.sc.count + 7) / 8) (length c.args.s.now)
     (sym c.has.ensures ∙ c.if-not-has.false) in
-    (omega arith, omega arith)
+    omega arith
 
-pub returns-in-Refused : goal.returns-in-Refused
-returns-in-Refused c =
+pub returns-in_default : goal.returns-in_default
+returns-in_default c =
+    let l = c.loop-i in
     let many = length-take-le c.args.sc.count c.args.sc.columns (omega arith) in
-    let more : c.loop-here.here.column < length (columns_of c.args.sc) = omega arith in
-    let column = get_or-take c.args.sc.count c.args.sc.columns c.loop-here.here.column blank_column
-    c.loop-here-test.true in
-    let e = rw (← column) at (sym c.in-Refused.is ∙ c.step.ensures) in
-    let bad = step-bad c.args.s.now (columns_of c.args.sc) c.loop-here.here c.loop-here.invariant.2.0 more e in
-    ap (row_told c.args.col) (sym bad ∙ c.loop-here.invariant.2.1.1.1)
+    let more : l.i < length (columns_of c.args.sc) = omega arith in
+    let column = get_or-take c.args.sc.count c.args.sc.columns l.i blank_column c.loop-i-test.true in
+    let e = rw (← column) at (sym c.field_at.ensures ∙ c.in_default.is) in
+    let bad = fields-refused c.args.s.now c.args.at l.i l.next (columns_of c.args.sc) l.invariant.0 more _ e in
+    ap (row_told c.args.col) (sym bad ∙ l.invariant.1.1.1)
 
-pub loop-here-smaller : goal.loop-here-smaller
-loop-here-smaller c =
+pub loop-i-preserved : goal.loop-i-preserved
+loop-i-preserved c =
+    let l = c.loop-i in
+    let acc = l.invariant.0 in
+    let f = c.in-Ok.field.value in
     let many = length-take-le c.args.sc.count c.args.sc.columns (omega arith) in
-    let more : c.loop-here.here.column < length (columns_of c.args.sc) = omega arith in
-    let column = get_or-take c.args.sc.count c.args.sc.columns c.loop-here.here.column blank_column
-    c.loop-here-test.true in
-    let e = rw (← column) at (sym c.in-Field.is ∙ c.step.ensures) in
-    let moved = step-more c.args.s.now (columns_of c.args.sc) c.loop-here.here c.loop-here.invariant.2.0 more c.in-Field.f c.in-Field.next e in
-    omega (arith, moved.column)
-
-pub loop-here-preserved : goal.loop-here-preserved
-loop-here-preserved c =
-    let many = length-take-le c.args.sc.count c.args.sc.columns (omega arith) in
-    let more : c.loop-here.here.column < length (columns_of c.args.sc) = omega arith in
-    let column = get_or-take c.args.sc.count c.args.sc.columns c.loop-here.here.column blank_column
-    c.loop-here-test.true in
-    let e = rw (← column) at (sym c.in-Field.is ∙ c.step.ensures) in
-    let moved = step-more c.args.s.now (columns_of c.args.sc) c.loop-here.here c.loop-here.invariant.2.0 more c.in-Field.f c.in-Field.next e in
-    let k = kept_next c.loop-here.invariant.2.0 c.in-Field.f c.args.col Null in (
-      omega (arith, moved.column),
-      moved.same ∙ c.loop-here.invariant.1,
+    let more : l.i < length (columns_of c.args.sc) = omega arith in
+    let column = get_or-take c.args.sc.count c.args.sc.columns l.i blank_column c.loop-i-test.true in
+    let e = rw (← column) at (sym c.field_at.ensures ∙ c.in-Ok.is) in
+    let rest = fields-more c.args.s.now c.args.at l.i l.next
+    (columns_of c.args.sc) acc blank_column more f c.in-Ok.field.next e in
+    let k = kept_next acc f c.args.col Null in (
+      acc ++ (f ∷ []),
       (
-        c.loop-here.invariant.2.0 ++ (c.in-Field.f ∷ []),
+        rw length-append (omega (arith, l.invariant.1.0)),
         (
-          rw length-append (omega (arith, moved.column)),
-          (c.keep-kept.ensures ∙ sym (rw (c.loop-here.invariant.2.1.0, ← c.loop-here.invariant.2.1.1.0) at k), sym moved.rest ∙ c.loop-here.invariant.2.1.1.1),
+          c.keep-kept.ensures ∙ sym (rw (l.invariant.1.0, ← l.invariant.1.1.0) at k),
+          sym rest ∙ l.invariant.1.1.1,
         ),
       ),
     )
 
 pub returns : goal.returns
 returns c =
+    let l = c.loop-i in
     let many = length-take-le c.args.sc.count c.args.sc.columns (omega arith) in
-    let ends = fields-end c.args.s.now c.loop-here.here.row c.loop-here.here.column c.loop-here.here.at (columns_of c.args.sc) c.loop-here.invariant.2.0 (omega arith) in
-    ap (λ (x : Field). read.Row x c.loop-here.here.at) c.loop-here.invariant.2.1.1.0 ∙ ap (row_told c.args.col) (sym ends ∙ c.loop-here.invariant.2.1.1.1)
+    let ends = fields-end c.args.s.now c.args.at l.i l.next (columns_of c.args.sc) l.invariant.0 (omega arith) in
+    ap (λ (x : Field). found (read x l.next)) l.invariant.1.1.0
+    ∙ ap (row_told c.args.col) (sym ends ∙ l.invariant.1.1.1)

@@ -35,8 +35,13 @@ pub returns : goal.returns
 returns c =
     let many = length-take-le c.args.sc.count c.args.sc.columns (omega arith) in (
       block-some c.args.s.now (columns_of c.args.sc) c.args.rows c.args.place (length c.args.list.now)
-          c.rows_given-given.result c.args.list.now (rw many c.rows_given-given.ensures) _ _ c.if-given-eq0.false c.little_endian-from.ensures.0
+          c.rows_given-given.result c.args.list.now
+          (rw many c.rows_given-given.ensures) _ _ c.if-given-eq0.false c.little_endian-from.ensures.0
           c.list_rows.ensures,
-      omega
-          (arith, c.rows_given-given.ensures, min-le_right (length c.args.list.now / (3 * c.args.sc.count)) (c.args.rows - c.args.place)),
+      omega (
+        arith,
+        c.rows_given-given.ensures,
+        min-le_right (length c.args.list.now / (3 * c.args.sc.count))
+            (c.args.rows - c.args.place),
+      ),
     )

@@ -4,7 +4,7 @@ use borrow.Author.Tests.{leb-true}
 use Rattle.common.specs.Bytes.{ceil8}
 use Rattle.row_list.proofs.Rows.{row-absent, row_listed}
 use mathlib.Core.Path.{sym, ◌∙◌}
-use Prim.Native.Nat.{◌+◌, ◌-◌}
+use Prim.Native.Nat.{◌+◌}
 use native.Mathlib.Omega.{arith}
 use lib.ListN.{length}
 use Rattle.row_list.proofs.list_row.Goals as goal

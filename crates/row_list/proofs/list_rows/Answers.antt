@@ -4,7 +4,7 @@ use lib.ListN.{length}
 use Rattle.row_spec.specs.Schema.{columns_of}
 use Rattle.row_list.proofs.Rows.{columns-many, upto-none, upto-more, upto_all, row_room}
 use mathlib.Core.Path.{◌≡◌, refl, ◌∙◌}
-use Prim.Native.Nat.{◌-◌, ◌*◌}
+use Prim.Native.Nat.{◌*◌}
 use native.Mathlib.Omega.{arith}
 use Rattle.row_list.proofs.list_rows.Goals as goal
 

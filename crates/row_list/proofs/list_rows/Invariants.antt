@@ -11,7 +11,8 @@ use Rattle.row_list.proofs.list_rows.Given as goal
 abbrev pub invariant-loop-r : goal.invariant-loop-r
 invariant-loop-r l =
     (l.r ≤ l.given) × (length l.list ≡ length l.initial.list) × (l.k ≡ l.r * (3 * l.n))
-    × ((cols : List Column) → take l.n l.storages ≡ map row_storage cols → Upto l.s cols l.from l.given l.initial.list l.r l.list l.at l.k)
+    × ((cols : List Column) → take l.n l.storages ≡ map row_storage cols
+    → Upto l.s cols l.from l.given l.initial.list l.r l.list l.at l.k)
 
 abbrev pub decreases-loop-r : goal.decreases-loop-r
 decreases-loop-r l = l.given - l.r

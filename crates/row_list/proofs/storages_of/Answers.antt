@@ -6,7 +6,6 @@ use Rattle.row_spec.specs.declared.Storage.TheVariants.{Boolean}
 use Rattle.row_laws.proofs.Mapped.{mapped_next}
 use Rattle.row_list.specs.Rows.{row_storage}
 use mathlib.Core.Path.{◌≡◌, refl, ◌∙◌}
-use Prim.Native.Nat.{◌-◌}
 use native.Mathlib.Omega.{arith}
 use Rattle.row_list.proofs.storages_of.Goals as goal
 

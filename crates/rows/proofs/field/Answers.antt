@@ -1,43 +1,45 @@
 -- A refusal of the schema, then of the block, then 25; else the field that was kept. Assumes nothing.
+use Rattle.std.proofs.lemmas.Result.{err_from_is_err_and}
 use Rattle.row_laws.proofs.Read.{read_found}
 use Rattle.rows.proofs.Asking.{field-unread, field-refused, row-absent, column-absent, field_found}
-use mathlib.Core.Path.{sym, ◌∙◌}
+use mathlib.Core.Path.{sym}
 use Rattle.rows.proofs.field.Goals as goal
 
-pub read-read-requires : goal.read-read-requires
-read-read-requires c = tt
-
-pub returns-then-refused-ne0 : goal.returns-then-refused-ne0
-returns-then-refused-ne0 c =
-    sym
-    (field-unread c.args.schema_bytes.now c.args.block.now _ c.read-read.ensures c.args.row
-    c.args.column c.if-refused-ne0.true)
+pub returns-in_err-schema : goal.returns-in_err-schema
+returns-in_err-schema c =
+    let a = c.args in
+    let p = err_from_is_err_and c.from_residual.result c.from_residual.ensures.1 in
+    rw (p.1, p.2)
+    (sym (field-unread a.schema_bytes.now a.block.now a.row a.column _ c.in_err-schema.ensures))
 
 pub judge-requires : goal.judge-requires
-judge-requires c =
-    let k = read_found _ _ c.read-read.ensures c.if-refused-ne0.false in
-    (k.most, k.room)
+judge-requires c = let k = read_found _ _ c.in_ok-schema.ensures in (k.most, k.room)
 
-pub returns-then-n-row : goal.returns-then-n-row
-returns-then-n-row c =
+pub returns-in_err-judged : goal.returns-in_err-judged
+returns-in_err-judged c =
+    let a = c.args in
+    let p = err_from_is_err_and c.from_residual-in_err-judged.result c.from_residual-in_err-judged.ensures.1 in
+    rw (p.1, p.2)
+    (sym
+    (field-refused a.schema_bytes.now a.block.now a.row a.column _ c.in_ok-schema.ensures _ c.in_err-judged.ensures))
+
+pub returns-then-judged-row : goal.returns-then-judged-row
+returns-then-judged-row c =
+    let a = c.args in
     sym
-    (row-absent c.args.schema_bytes.now c.args.block.now _ c.read-read.ensures c.args.row c.args.column
-    c.if-refused-ne0.false _ _ (sym c.in-Rows.is ∙ c.judge.ensures) c.if-n-row.true)
+    (row-absent a.schema_bytes.now a.block.now a.row a.column _ c.in_ok-schema.ensures _ c.in_ok-judged.ensures
+    c.if-judged-row.true)
 
 pub returns-then-schema-column : goal.returns-then-schema-column
 returns-then-schema-column c =
+    let a = c.args in
     sym
-    (column-absent c.args.schema_bytes.now c.args.block.now _ c.read-read.ensures c.args.row c.args.column
-    c.if-refused-ne0.false _ _ (sym c.in-Rows.is ∙ c.judge.ensures) c.if-n-row.false c.if-schema-column.true)
+    (column-absent a.schema_bytes.now a.block.now a.row a.column _ c.in_ok-schema.ensures _ c.in_ok-judged.ensures
+    c.if-judged-row.false c.if-schema-column.true)
 
-pub returns-in-Refused : goal.returns-in-Refused
-returns-in-Refused c =
+pub returns : goal.returns
+returns c =
+    let a = c.args in
     sym
-    (field-refused c.args.schema_bytes.now c.args.block.now _ c.read-read.ensures c.args.row c.args.column
-    c.if-refused-ne0.false _ (sym c.in-Refused.is ∙ c.judge.ensures))
-
-pub returns-else-schema-column : goal.returns-else-schema-column
-returns-else-schema-column c =
-    sym
-    (field_found c.args.schema_bytes.now c.args.block.now _ c.read-read.ensures c.args.row c.args.column
-    c.if-refused-ne0.false _ _ (sym c.in-Rows.is ∙ c.judge.ensures) c.if-n-row.false c.if-schema-column.false)
+    (field_found a.schema_bytes.now a.block.now a.row a.column _ c.in_ok-schema.ensures _ c.in_ok-judged.ensures
+    c.if-judged-row.false c.if-schema-column.false)

@@ -12,18 +12,18 @@ use borrow.Author.Rules.{rules}
 use Rattle.store.proofs.save.Goals as goal
 
 pub returns-then-dir-ne128 : goal.returns-then-dir-ne128
-returns-then-dir-ne128 c = gives-refused _ 42 _ (save-short _ _ _ c.if-dir-ne128.true)
+returns-then-dir-ne128 c = gives-refused _ _ _ (save-short _ _ _ c.if-dir-ne128.true)
 
 pub returns-then-not-is_sound : goal.returns-then-not-is_sound
 returns-then-not-is_sound c =
-    gives-refused _ 42 _
+    gives-refused _ _ _
     (save-first _ _ _ c.if-dir-ne128.false _ c.is_sound.ensures (c.if-not-is_sound.true))
 
 pub returns-then-not-is_sound-2 : goal.returns-then-not-is_sound-2
 returns-then-not-is_sound-2 c =
     let first = good 0 c.args.dir.now c.args.buf.now _ c.is_sound.ensures
     (c.if-not-is_sound.false) in
-    gives-refused _ 42 _
+    gives-refused _ _ _
     (save-second _ _ _ c.if-dir-ne128.false first _ c.is_sound-2.ensures (c.if-not-is_sound-2.true))
 
 pub entries_size-x-requires : goal.entries_size-x-requires

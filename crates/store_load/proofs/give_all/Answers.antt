@@ -14,24 +14,24 @@ pub loop-k-init : goal.loop-k-init
 loop-k-init c =
     (omega arith, c.empty_all.auto.dir ∙ c.requires.1, refl, ([], read-start _ _ _, load-start _ _ _ c.empty_all.ensures))
 
-pub shape_of-dir-in-Bad : goal.shape_of-dir-in-Bad
-shape_of-dir-in-Bad c =
+pub shape_of-dir-in_default : goal.shape_of-dir-in_default
+shape_of-dir-in_default c =
     c.loop-k.invariant.1 ∙ sym c.requires.1
 
-pub shape_of-buf-in-Bad : goal.shape_of-buf-in-Bad
-shape_of-buf-in-Bad c =
+pub shape_of-buf-in_default : goal.shape_of-buf-in_default
+shape_of-buf-in_default c =
     c.loop-k.invariant.2
 
-pub returns-in-Bad : goal.returns-in-Bad
-returns-in-Bad c =
+pub returns-in_default : goal.returns-in_default
+returns-in_default c =
     λ x e.
     not-both _ x e
     (read-bad _ _ _ _ _ c.loop-k.invariant.3.0 c.loop-k.invariant.3.1 c.loop-k-test.true
-    (frame-bad _ _ _ c.entry_at.ensures c.in-Bad.is))
+    (frame-bad _ _ c.in_default.ensures))
 
 pub give-to-requires : goal.give-to-requires
 give-to-requires c =
-    let f = frame _ _ _ c.entry_at.ensures _ _ c.in-Entry.is in
+    let f = frame _ _ _ c.in-Some.ensures in
     let t = read_next _ _ _ _ _ c.loop-k.invariant.3.0 c.requires.2.0 c.loop-k.invariant.3.1 c.loop-k-test.true c.requires.2.1 in
     let x = entry-there _ _ _ _ f.0 f.1 t.0 t.1 in (
       c.requires.0,
@@ -40,13 +40,13 @@ give-to-requires c =
       x.1,
       omega (
         arith,
-        more-total c.args.s.now c.in-Entry.a c.in-Entry.m c.loop-k.to c.loop-k.invariant.3.0 x.1
+        more-total c.args.s.now c.in-Some.entry.start c.in-Some.entry.length c.loop-k.to c.loop-k.invariant.3.0 x.1
             c.loop-k.invariant.3.2.sum,
-        read-room c.args.s.now c.args.first c.args.n (c.loop-k.k + 1) (c.in-Entry.a + c.in-Entry.m)
-            (c.loop-k.invariant.3.0 ++ (take c.in-Entry.m (drop c.in-Entry.a c.args.s.now) ∷ []))
+        read-room c.args.s.now c.args.first c.args.n (c.loop-k.k + 1) (c.in-Some.entry.start + c.in-Some.entry.length)
+            (c.loop-k.invariant.3.0 ++ (take c.in-Some.entry.length (drop c.in-Some.entry.start c.args.s.now) ∷ []))
             c.requires.2.0
-            (read_more c.args.s.now c.args.first c.args.n c.loop-k.k c.loop-k.at c.in-Entry.a
-            c.in-Entry.m c.loop-k.invariant.3.0 c.loop-k.invariant.3.1 c.loop-k-test.true x.0)
+            (read_more c.args.s.now c.args.first c.args.n c.loop-k.k c.loop-k.at c.in-Some.entry.start
+            c.in-Some.entry.length c.loop-k.invariant.3.0 c.loop-k.invariant.3.1 c.loop-k-test.true x.0)
             c.requires.2.1,
         c.requires.2.2,
         c.loop-k.invariant.2,
@@ -56,19 +56,19 @@ give-to-requires c =
 
 pub overflow_add-at : goal.overflow_add-at
 overflow_add-at c =
-    let f = frame _ _ _ c.entry_at.ensures _ _ c.in-Entry.is in
+    let f = frame _ _ _ c.in-Some.ensures in
     omega (arith, f.1)
 
 pub loop-k-preserved : goal.loop-k-preserved
 loop-k-preserved c =
-    let f = frame _ _ _ c.entry_at.ensures _ _ c.in-Entry.is in
+    let f = frame _ _ _ c.in-Some.ensures in
     let t = read_next _ _ _ _ _ c.loop-k.invariant.3.0 c.requires.2.0 c.loop-k.invariant.3.1 c.loop-k-test.true c.requires.2.1 in
     let x = entry-there _ _ _ _ f.0 f.1 t.0 t.1 in (
       omega arith,
       c.give-to.auto.dir ∙ c.loop-k.invariant.1,
       c.give-to.auto.buf ∙ c.loop-k.invariant.2,
       (
-        c.loop-k.invariant.3.0 ++ (take c.in-Entry.m (drop c.in-Entry.a c.args.s.now) ∷ []),
+        c.loop-k.invariant.3.0 ++ (take c.in-Some.entry.length (drop c.in-Some.entry.start c.args.s.now) ∷ []),
         read_more _ _ _ _ _ _ _ _ c.loop-k.invariant.3.1 c.loop-k-test.true x.0,
         rw c.give-to.ensures.0 (c.give-to.ensures.1 c.loop-k.invariant.3.0 c.loop-k.invariant.3.2),
       ),

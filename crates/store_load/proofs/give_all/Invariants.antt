@@ -12,6 +12,3 @@ abbrev pub invariant-loop-k : goal.invariant-loop-k
 invariant-loop-k l =
     (l.k ≤ l.n) × (length l.dir ≡ 2 * l.n) × (length l.buf ≡ length l.initial.buf)
     × ((acc : List (List ℕ)) × Reading l.s l.first l.n l.k l.at acc × Loading l.n l.dir l.buf l.k l.to acc)
-
-abbrev pub decreases-loop-k : goal.decreases-loop-k
-decreases-loop-k l = l.n - l.k

@@ -9,7 +9,4 @@ use Rattle.store_load.proofs.scan_entries.Given as goal
 
 abbrev pub invariant-loop-k : goal.invariant-loop-k
 invariant-loop-k l =
-    (l.k ≤ l.n) × (l.t ≤ l.k * 268390) × ((acc : List (List ℕ)) × Reading l.s l.first l.n l.k l.at acc × (l.t ≡ total acc))
-
-abbrev pub decreases-loop-k : goal.decreases-loop-k
-decreases-loop-k l = l.n - l.k
+    (l.k ≤ l.n) × (l.total ≤ l.k * 268390) × ((acc : List (List ℕ)) × Reading l.s l.first l.n l.k l.end acc × (l.total ≡ total acc))

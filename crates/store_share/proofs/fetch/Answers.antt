@@ -10,13 +10,13 @@ use Rattle.store_share.proofs.fetch.Goals as goal
 
 pub returns-then-not-is_sound : goal.returns-then-not-is_sound
 returns-then-not-is_sound c =
-    gives-refused _ 42 _
+    gives-refused _ _ _
     (bad _ _ _ (fetch_in (length c.args.out.now) c.args.k) _ c.requires.2 c.is_sound.ensures
     (c.if-not-is_sound.true))
 
 pub returns-then-m-eq0 : goal.returns-then-m-eq0
 returns-then-m-eq0 c =
-    gives-refused _ 41 _
+    gives-refused _ _ _
     (fetch-empty _ _ _ _ (lies _ _ _ _ c.is_sound.ensures (c.if-not-is_sound.false)) c.requires.2
     c.requires.1 _ (sym c.length_of-m.ensures.0 ∙ c.if-m-eq0.true))
 

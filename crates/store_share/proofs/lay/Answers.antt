@@ -19,7 +19,7 @@ overflow_cast-dir-2 c =
     omega (
       arith,
       c.requires.5.sized,
-      form-few (laid c.args.bitmap.now c.args.start c.args.ds.now c.args.card) c.requires.5.is_f,
+      form-few (laid c.args.bitmap.now c.args.form.start c.args.ds.now c.args.form.cardinality) c.requires.5.is_f,
     )
 
 pub bounds-dir-k-2 : goal.bounds-dir-k-2
@@ -28,9 +28,9 @@ bounds-dir-k-2 c =
 
 pub returns : goal.returns
 returns c =
-    let room : c.pack-end.result + c.args.size ≤ length c.pack-end.new.buf =
+    let room : c.pack-end.result + c.args.form.size ≤ length c.pack-end.new.buf =
     lay-room _ _ _ _ _ _ _ _ _ c.pack-end.ensures c.requires.2 c.requires.1 c.requires.4 c.requires.5.sized c.requires.5.is_f c.requires.6 in
-    let eb = mid_written c.pack-end.new.buf (laid c.args.bitmap.now c.args.start c.args.ds.now c.args.card) _
+    let eb = mid_written c.pack-end.new.buf (laid c.args.bitmap.now c.args.form.start c.args.ds.now c.args.form.cardinality) _
     c.pack-end.result (length c.pack-end.new.buf - c.pack-end.result) (omega (arith, c.requires.5.sized)) (omega arith)
     c.put_laid.ensures in (
       lay-lies _ _ _ _ _ _ _ _ _ c.pack-end.ensures c.requires.2 c.requires.1 c.requires.4 c.requires.5.sized c.requires.5.is_f c.requires.6 _ _

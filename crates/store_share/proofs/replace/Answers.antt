@@ -27,12 +27,12 @@ overflow_add-rest c =
       c.used.ensures,
       used-few _ _ _ c.requires.3 c.requires.0,
       c.requires.4.sized,
-      form-few (laid c.args.bitmap.now c.args.start c.args.ds.now c.args.card) c.requires.4.is_f,
+      form-few (laid c.args.bitmap.now c.args.form.start c.args.ds.now c.args.form.cardinality) c.requires.4.is_f,
     )
 
 pub returns-then-buf-rest : goal.returns-then-buf-rest
 returns-then-buf-rest c =
-    no_room _ _ _ c.args.k (laid c.args.bitmap.now c.args.start c.args.ds.now c.args.card) c.requires.3 c.requires.2
+    no_room _ _ _ c.args.k (laid c.args.bitmap.now c.args.form.start c.args.ds.now c.args.form.cardinality) c.requires.3 c.requires.2
     c.requires.1 (c.used.result - c.length_of.result) (omega (arith, c.used.ensures, c.length_of.ensures.0))
     (omega (arith, c.if-buf-rest.true, c.requires.4.sized))
 
@@ -47,7 +47,7 @@ lay-requires c = (
   omega (
     arith,
     c.requires.4.sized,
-    clear_room _ _ _ c.args.k (laid c.args.bitmap.now c.args.start c.args.ds.now c.args.card) c.requires.3
+    clear_room _ _ _ c.args.k (laid c.args.bitmap.now c.args.form.start c.args.ds.now c.args.form.cardinality) c.requires.3
         c.requires.2 c.requires.1 (c.used.result - c.length_of.result)
         (omega (arith, c.used.ensures, c.length_of.ensures.0))
         (omega (arith, c.if-buf-rest.false, c.requires.4.sized)),
@@ -60,7 +60,7 @@ shape_of-dir c =
 
 pub returns : goal.returns
 returns c =
-    stored-done _ _ _ c.args.k (laid c.args.bitmap.now c.args.start c.args.ds.now c.args.card) c.requires.3 c.requires.2
+    stored-done _ _ _ c.args.k (laid c.args.bitmap.now c.args.form.start c.args.ds.now c.args.form.cardinality) c.requires.3 c.requires.2
     c.requires.1 (c.used.result - c.length_of.result) (omega (arith, c.used.ensures, c.length_of.ensures.0))
     (omega (arith, c.if-buf-rest.false, c.requires.4.sized)) _ _ (c.lay.auto.dir ∙ length-set c.args.dir.now (2 * c.args.k + 1) 0)
     c.lay.auto.buf c.lay.ensures.0 c.lay.ensures.1

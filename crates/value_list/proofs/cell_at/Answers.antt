@@ -1,7 +1,6 @@
 -- Case by case, by how the value is stored. Assumes nothing.
 use Rattle.row_spec.specs.Value.{stored_at}
 use Rattle.value_list.proofs.Stored.{boolean-holds, whole-holds, long-holds, float-holds, double-holds, time-holds}
-use Prim.Native.Nat.{◌-◌}
 use Rattle.value_list.proofs.cell_at.Goals as goal
 
 pub returns-in-Boolean : goal.returns-in-Boolean

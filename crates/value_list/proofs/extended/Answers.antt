@@ -1,7 +1,6 @@
 -- Below half the number is itself; from half on it lacks 2 * half, which 64 bits add up to. Assumes nothing.
 use Rattle.row_laws.proofs.TwosComplement.{unsigned-below, unsigned-above}
 use mathlib.Core.Path.{sym, ◌∙◌}
-use Prim.Native.Nat.{◌-◌}
 use native.Mathlib.Omega.{arith}
 use Rattle.value_list.proofs.extended.Goals as goal
 

@@ -5,7 +5,6 @@ use Rattle.value_list.specs.declared.Cell.{Cell}
 use Rattle.value_list.specs.Cell.{numbers_in}
 use Rattle.value_list.proofs.Stored.{read-holds}
 use mathlib.Core.Path.{ap}
-use Prim.Native.Nat.{◌-◌}
 use Rattle.value_list.proofs.field_cell.Goals as goal
 
 pub returns-then-null : goal.returns-then-null

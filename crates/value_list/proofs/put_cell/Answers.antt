@@ -1,7 +1,7 @@
 -- Three stores one after the other are the three numbers behind what is there. Assumes nothing.
 use lib.ListN.{set, length-set}
 use Rattle.value_list.proofs.Runs.{put-more}
-use Prim.Native.Nat.{◌+◌, ◌-◌}
+use Prim.Native.Nat.{◌+◌}
 use native.Mathlib.Omega.{arith}
 use borrow.Author.Rules.{rules}
 use Rattle.value_list.proofs.put_cell.Goals as goal

@@ -5,7 +5,7 @@ use Rattle.row_spec.specs.Page.{unsigned}
 use Rattle.value_list.proofs.Stored.{not_there}
 use Rattle.value_list.specs.Cell.{cell_of}
 use mathlib.Core.Path.{sym, ap, ◌∙◌}
-use Prim.Native.Nat.{ℕ, ◌+◌, ◌-◌}
+use Prim.Native.Nat.{ℕ, ◌+◌}
 use native.Mathlib.Omega.{arith}
 use lib.ListN.{length}
 use borrow.Author.Rules.{rules}

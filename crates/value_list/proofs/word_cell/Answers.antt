@@ -3,7 +3,7 @@ use borrow.Author.Tests.{leb-true}
 use Rattle.value_list.proofs.Stored.{not_there}
 use Rattle.value_list.specs.Cell.{cell_of}
 use mathlib.Core.Path.{sym, ap, ◌∙◌}
-use Prim.Native.Nat.{ℕ, ◌+◌, ◌-◌}
+use Prim.Native.Nat.{ℕ, ◌+◌}
 use native.Mathlib.Omega.{arith}
 use lib.ListN.{length}
 use borrow.Author.Rules.{rules}

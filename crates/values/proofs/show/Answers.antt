@@ -1,26 +1,27 @@
 -- Case by case; the stored count of a time fits its 64 bits. Assumes nothing.
-use lib.IntN.{ℤ}
+use mathlib.Core.Bool.{Bool, true, false}
+use lib.IntN.{ℤ, pos}
+use mir.Val.{to_z, bool_byte}
+use Rattle.common.specs.Outcome.{one}
 use mir.Facts.{to_z-of_z}
 use mir.Syntax.{w64}
 use Rattle.row_spec.specs.Answer.{shown, as_plain}
-use mathlib.Core.Path.{ap, ◌∙◌}
-use lib.ListN.{length}
+use mathlib.Core.Path.{◌≡◌, refl, ap, ◌∙◌}
 use borrow.Author.Rules.{rules}
 use Rattle.values.proofs.show.Goals as goal
 
-pub returns-then-b : goal.returns-then-b
-unfolding shown
-returns-then-b c =
-    rw (c.in-Bool.is, c.if-b.true) c.plain-then-b.ensures
+bool-number : (b : Bool) → to_z w64 (bool_byte b) ≡ pos (one b)
+bool-number true = refl
+bool-number false = refl
 
 pub returns-in-Null : goal.returns-in-Null
 unfolding shown
 returns-in-Null c = rw c.in-Null.is c.plain.ensures
 
-pub returns-else-b : goal.returns-else-b
+pub returns-in-Bool : goal.returns-in-Bool
 unfolding shown
-returns-else-b c =
-    rw (c.in-Bool.is, c.if-b.false) c.plain-in-Bool.ensures
+returns-in-Bool c =
+    rw c.in-Bool.is (c.plain-in-Bool.ensures ∙ ap (λ (z : ℤ). as_plain 1 z 0) (bool-number c.in-Bool.b))
 
 pub returns-in-Whole : goal.returns-in-Whole
 unfolding shown

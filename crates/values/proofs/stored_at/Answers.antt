@@ -29,9 +29,7 @@ pub returns-in-Float64 : goal.returns-in-Float64
 returns-in-Float64 c = rw c.in-Float64.is c.double_at.ensures
 
 pub returns-in-Sized : goal.returns-in-Sized
-unfolding stored_at
-returns-in-Sized c =
-    rw (c.in-Sized.is, ← c.varint.ensures) c.sized_of.ensures
+returns-in-Sized c = rw c.in-Sized.is c.sized_at.ensures
 
 pub returns-in-Time : goal.returns-in-Time
 returns-in-Time c = rw c.in-Time.is c.time_at.ensures

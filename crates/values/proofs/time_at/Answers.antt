@@ -1,36 +1,18 @@
 -- With room, the count; else it is cut short. Assumes nothing.
-use borrow.Author.Tests.{leb-true}
-use Rattle.row_spec.specs.Value.{stored_at, room}
-use lib.IntN.{ℤ}
-use mir.Facts.{to_z-of_z}
-use mir.Syntax.{w64}
-use Rattle.row_spec.specs.declared.Field.TheVariants.{Time}
-use Rattle.row_spec.specs.declared.Value.TheVariants.{Read}
-use mathlib.Core.Path.{sym, ap, ◌∙◌}
-use Prim.Native.Nat.{◌+◌}
+use Rattle.std.proofs.lemmas.Result.{err_from_is_err_and}
 use native.Mathlib.Omega.{arith}
-use lib.ListN.{length}
+use Rattle.row_spec.specs.Value.{stored_at, nanos_of}
+use Rattle.values.proofs.Rooms.{room_there, no-room, with-room}
 use Rattle.values.proofs.time_at.Goals as goal
 
-pub count_at-z-requires : goal.count_at-z-requires
-count_at-z-requires c =
-    leb-true (c.args.at + 8) (length c.args.s.now) (sym c.has.ensures ∙ c.if-has.true)
-
-pub overflow_add-result : goal.overflow_add-result
-overflow_add-result c =
-    omega (
-      arith,
-      leb-true (c.args.at + 8) (length c.args.s.now)
-          (sym c.has.ensures ∙ c.if-has.true),
-    )
-
-pub returns-then-has : goal.returns-then-has
-unfolding stored_at room
-returns-then-has c =
-    rw (sym c.has.ensures ∙ c.if-has.true)
-    (ap (λ (z : ℤ). Read (Time z 0) (c.args.at + 8))
-    (to_z-of_z {w = w64} (record { sfits = c.count_at-z.type_inv }) ∙ c.count_at-z.ensures))
+pub returns-in_err-count : goal.returns-in_err-count
+unfolding stored_at
+returns-in_err-count c =
+    let p = err_from_is_err_and c.from_residual.result c.from_residual.ensures.1 in
+    rw (p.1, p.2) (no-room c.args.s.now c.args.at 8 _ _ c.in_err-count.ensures.word c.args.at 8 (omega arith) _)
 
 pub returns : goal.returns
-unfolding stored_at room
-returns c = rw (sym c.has.ensures ∙ c.if-has.false)
+unfolding stored_at nanos_of
+returns c =
+    let h = with-room c.args.s.now c.args.at 8 _ _ c.in_ok-count.ensures.word in
+    rw (room_there c.args.s.now c.args.at 8 h.fits, ← h.value, ← h.next) c.time.ensures

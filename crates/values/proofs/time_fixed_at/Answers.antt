@@ -1,46 +1,37 @@
 -- With room for all 12 bytes, the 4 bytes behind the count decide. Assumes nothing.
-use borrow.Author.Tests.{leb-true}
-use mathlib.Core.Path.{ap₂, sym, ap, ◌∙◌}
-use mathlib.Core.Bool.{true}
-use Rattle.row_spec.specs.Value.{stored_at, room, nanos_of}
-use mir.Facts.{to_z-of_z}
-use mir.Syntax.{w64}
-use Rattle.row_spec.specs.declared.Varint.TheVariants.{Number}
-use Prim.Native.Nat.{ℕ, ◌+◌}
-use native.Mathlib.Omega.{arith}
+use Rattle.std.proofs.lemmas.Result.{err_from_is_err_and}
+use mathlib.Core.Path.{◌≡◌}
 use lib.ListN.{length}
-use borrow.Author.Rules.{rules}
+use Prim.Native.Nat.{◌+◌, ◌≤◌}
+use native.Mathlib.Omega.{arith}
+use Rattle.row_spec.specs.Value.{stored_at, nanos_of}
+use Rattle.values.proofs.Rooms.{room_there, no-room, with-room}
 use Rattle.values.proofs.time_fixed_at.Goals as goal
 
-pub overflow_add-at : goal.overflow_add-at
-overflow_add-at c =
-    omega (arith, leb-true (c.args.at + 12) (length c.args.s.now) (sym c.has.ensures ∙ c.if-has.true))
+pub returns-in_err-count : goal.returns-in_err-count
+unfolding stored_at
+returns-in_err-count c =
+    let p = err_from_is_err_and c.from_residual.result c.from_residual.ensures.1 in
+    rw (p.1, p.2) (no-room c.args.s.now c.args.at 8 _ _ c.in_err-count.ensures.word c.args.at 12 (omega arith) _)
 
-pub word-n-requires : goal.word-n-requires
-word-n-requires c = (
-  omega (arith, leb-true (c.args.at + 12) (length c.args.s.now) (sym c.has.ensures ∙ c.if-has.true)),
-  search rules,
-)
+pub returns-in_err-nanos : goal.returns-in_err-nanos
+unfolding stored_at
+returns-in_err-nanos c =
+    let h = with-room c.args.s.now c.args.at 8 _ _ c.in_ok-count.ensures.word in
+    let p = err_from_is_err_and c.from_residual-in_err-nanos.result c.from_residual-in_err-nanos.ensures.1 in
+    let more : c.in_ok-count.count.next + 4 ≤ c.args.at + 12 = omega (arith, h.next) in
+    rw (p.1, p.2) (no-room c.args.s.now c.in_ok-count.count.next 4 _ _ c.in_err-nanos.ensures.word c.args.at 12 more _)
 
-pub count_at-requires : goal.count_at-requires
-count_at-requires c =
-    omega (
-      arith,
-      leb-true (c.args.at + 12) (length c.args.s.now)
-          (sym c.has.ensures ∙ c.if-has.true),
-    )
-
-pub overflow_add-at-then-has : goal.overflow_add-at-then-has
-overflow_add-at-then-has c =
-    omega (arith, leb-true (c.args.at + 12) (length c.args.s.now) (sym c.has.ensures ∙ c.if-has.true))
-
-pub returns-then-has : goal.returns-then-has
-unfolding stored_at room
-returns-then-has c =
-    rw (sym c.has.ensures ∙ c.if-has.true)
-    (c.nanos_of.ensures ∙ ap₂ nanos_of (to_z-of_z {w = w64} (record { sfits = c.count_at.type_inv }) ∙ c.count_at.ensures)
-    (ap (λ (x : ℕ). Number x (c.args.at + 12) true) c.word-n.ensures.0))
+pub overflow_cast-nanos : goal.overflow_cast-nanos
+overflow_cast-nanos c =
+    let g = with-room c.args.s.now c.in_ok-count.count.next 4 _ _ c.in_ok-nanos.ensures.word in
+    record { fits = rw g.value c.in_ok-nanos.ensures.small }
 
 pub returns : goal.returns
-unfolding stored_at room
-returns c = rw (sym c.has.ensures ∙ c.if-has.false)
+unfolding stored_at nanos_of
+returns c =
+    let h = with-room c.args.s.now c.args.at 8 _ _ c.in_ok-count.ensures.word in
+    let g = with-room c.args.s.now c.in_ok-count.count.next 4 _ _ c.in_ok-nanos.ensures.word in
+    let fits : c.args.at + 12 ≤ length c.args.s.now = omega (arith, g.fits, h.next) in
+    let end : c.args.at + 12 ≡ c.in_ok-nanos.nanos.next = omega (arith, g.next, h.next) in
+    rw (room_there c.args.s.now c.args.at 12 fits, ← h.value, ← h.next, ← g.value, end) c.time.ensures

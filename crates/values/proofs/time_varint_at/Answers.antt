@@ -1,33 +1,26 @@
 -- With room for the count, the varint behind it decides. Assumes nothing.
-use borrow.Author.Tests.{leb-true}
-use mathlib.Core.Path.{ap₂, sym, ◌∙◌}
-use Rattle.row_spec.specs.Value.{stored_at, room, nanos_of}
-use mir.Facts.{to_z-of_z}
-use mir.Syntax.{w64}
-use Prim.Native.Nat.{◌+◌}
+use Rattle.std.proofs.lemmas.Result.{err_from_is_err_and}
 use native.Mathlib.Omega.{arith}
-use lib.ListN.{length}
+use Rattle.row_spec.specs.Value.{stored_at, nanos_of}
+use Rattle.values.proofs.Rooms.{fault, room_there, no-room, with-room}
 use Rattle.values.proofs.time_varint_at.Goals as goal
 
-pub count_at-requires : goal.count_at-requires
-count_at-requires c =
-    leb-true (c.args.at + 8) (length c.args.s.now) (sym c.has.ensures ∙ c.if-has.true)
+pub returns-in_err-count : goal.returns-in_err-count
+unfolding stored_at
+returns-in_err-count c =
+    let p = err_from_is_err_and c.from_residual.result c.from_residual.ensures.1 in
+    rw (p.1, p.2) (no-room c.args.s.now c.args.at 8 _ _ c.in_err-count.ensures.word c.args.at 8 (omega arith) _)
 
-pub overflow_add-at : goal.overflow_add-at
-overflow_add-at c =
-    omega (
-      arith,
-      leb-true (c.args.at + 8) (length c.args.s.now)
-          (sym c.has.ensures ∙ c.if-has.true),
-    )
-
-pub returns-then-has : goal.returns-then-has
-unfolding stored_at room
-returns-then-has c =
-    rw (sym c.has.ensures ∙ c.if-has.true)
-    (c.nanos_of.ensures ∙ ap₂ nanos_of (to_z-of_z {w = w64} (record { sfits = c.count_at.type_inv }) ∙ c.count_at.ensures)
-    c.varint.ensures)
+pub returns-in_err-nanos : goal.returns-in_err-nanos
+unfolding stored_at nanos_of
+returns-in_err-nanos c =
+    let h = with-room c.args.s.now c.args.at 8 _ _ c.in_ok-count.ensures.word in
+    let p = err_from_is_err_and c.from_residual-in_err-nanos.result c.from_residual-in_err-nanos.ensures.1 in
+    rw (p.1, p.2, room_there c.args.s.now c.args.at 8 h.fits, ← h.next, ← c.in_err-nanos.ensures)
+    (fault c.in_err-nanos.field-0.0 _)
 
 pub returns : goal.returns
-unfolding stored_at room
-returns c = rw (sym c.has.ensures ∙ c.if-has.false)
+unfolding stored_at nanos_of
+returns c =
+    let h = with-room c.args.s.now c.args.at 8 _ _ c.in_ok-count.ensures.word in
+    rw (room_there c.args.s.now c.args.at 8 h.fits, ← h.value, ← h.next, ← c.in_ok-nanos.ensures) c.time.ensures

@@ -6,12 +6,6 @@ use mathlib.Core.Path.{refl}
 use native.Mathlib.Omega.{arith}
 use Rattle.width_choice.proofs.packed_size.Goals as goal
 
-pub overflow_mul-result : goal.overflow_mul-result
-overflow_mul-result c = let few = prod 256 8 c.args.n c.args.b c.requires.0 c.requires.1 in omega arith
-
-pub overflow_add-result : goal.overflow_add-result
-overflow_add-result c = let few = prod 256 8 c.args.n c.args.b c.requires.0 c.requires.1 in omega arith
-
 pub returns : goal.returns
 unfolding ceil8
 returns c =

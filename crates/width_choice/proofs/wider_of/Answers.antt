@@ -2,20 +2,14 @@
 -- Assumes nothing.
 use mathlib.Core.Path.{◌∙◌}
 use native.Mathlib.Omega.{arith}
-use Rattle.width_choice.proofs.Thresholds.{step-some, step-few, under-step, over-step, over-all}
+use Rattle.width_choice.proofs.Thresholds.{under-step, over-step, over-all}
 use Rattle.width_choice.proofs.wider_of.Goals as goal
 
-pub overflow_add-t : goal.overflow_add-t
-overflow_add-t c =
-    omega (arith, step-few c.args.m c.args.b c.requires.2)
-
-pub overflow_sub-t : goal.overflow_sub-t
-overflow_sub-t c =
-    omega (arith, step-some c.args.m c.args.b c.requires.2)
-
 pub returns-then-t-gt255 : goal.returns-then-t-gt255
-returns-then-t-gt255 c =
-    (over-all c.args.m c.args.b c.requires.2 c.args.ds.now (λ k. omega (arith, c.type_inv.ds k)) c.if-t-gt255.true, omega arith)
+returns-then-t-gt255 c = (
+  over-all c.args.m c.args.b c.requires.2 c.args.ds.now (λ k. omega (arith, c.type_inv.ds k)) c.if-t-gt255.true,
+  omega arith,
+)
 
 pub count_over-requires : goal.count_over-requires
 count_over-requires c =

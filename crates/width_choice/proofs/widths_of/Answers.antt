@@ -12,26 +12,20 @@ use Rattle.width_choice.proofs.widths_of.Goals as goal
 
 pub loop-i-init : goal.loop-i-init
 loop-i-init c =
-    (omega arith, refl, map-start (λ d. width (d - c.args.m)) c.args.ds.now c.args.ws.now 0)
-
-pub overflow_sub-ds : goal.overflow_sub-ds
-overflow_sub-ds c =
-    c.requires.1 c.loop-i.i (omega arith)
+    (refl, map-start (λ d. width (d - c.args.m)) c.args.ds.now c.args.ws.now 0)
 
 pub loop-i-preserved : goal.loop-i-preserved
 loop-i-preserved c = (
-  omega arith,
-  length-set c.loop-i.ws c.loop-i.i c.width_of.result ∙ c.loop-i.invariant.1,
-  front-turn (λ d. width (d - c.args.m)) c.args.ds.now c.args.ws.now c.loop-i.ws c.loop-i.i c.width_of.result (omega arith)
+  length-set c.loop-i.ws c.loop-i.i c.width_of.result ∙ c.loop-i.invariant.0,
+  front-turn (λ d. width (d - c.args.m)) c.args.ds.now c.args.ws.now c.loop-i.ws c.loop-i.i c.width_of.result
       (omega arith)
-      c.width_of.ensures c.loop-i.invariant.2,
+      (omega arith)
+      c.width_of.ensures c.loop-i.invariant.1,
 )
-
-pub shape_of-ws : goal.shape_of-ws
-shape_of-ws c = c.loop-i.invariant.1
 
 pub returns : goal.returns
 returns c =
     let end : c.loop-i.i ≡ length c.args.ds.now = omega arith in
-    let all = map-end (λ d. width (d - c.args.m)) c.args.ds.now c.args.ws.now c.loop-i.ws 0 c.loop-i.i end c.loop-i.invariant.2 in
-    (end, all ∙ ap (λ (x : List ℕ). written c.args.ws.now 0 x) (sym (map-map width (λ d. d - c.args.m) c.args.ds.now)))
+    let all = map-end (λ d. width (d - c.args.m)) c.args.ds.now c.args.ws.now c.loop-i.ws 0 c.loop-i.i end
+    c.loop-i.invariant.1 in
+    (refl, all ∙ ap (λ (x : List ℕ). written c.args.ws.now 0 x) (sym (map-map width (λ d. d - c.args.m) c.args.ds.now)))

@@ -5,12 +5,9 @@ use lib.ListN.{take, length}
 use Rattle.bitmap_spec.specs.Form.{width}
 use Rattle.bitmap_spec.specs.Output.{written}
 use mathlib.Core.Path.{◌≡◌}
-use Prim.Native.Nat.{◌-◌, ◌≤◌}
+use Prim.Native.Nat.{◌-◌}
 use Rattle.width_choice.proofs.widths_of.Given as goal
 
 abbrev pub invariant-loop-i : goal.invariant-loop-i
 invariant-loop-i l =
-    (l.i ≤ length l.ds) × (length l.ws ≡ length l.initial.ws) × (l.ws ≡ written l.initial.ws 0 (map (λ d. width (d - l.m)) (take l.i l.ds)))
-
-abbrev pub decreases-loop-i : goal.decreases-loop-i
-decreases-loop-i l = length l.ds - l.i
+    (length l.ws ≡ length l.initial.ws) × (l.ws ≡ written l.initial.ws 0 (map (λ d. width (d - l.m)) (take l.i l.ds)))

@@ -5,9 +5,6 @@ use lib.Count.{trailing_le}
 use Rattle.words.proofs.Empty.{empty-low}
 use Rattle.words.proofs.empty_bytes.Goals as goal
 
-pub overflow_cast-result : goal.overflow_cast-result
-overflow_cast-result c = omega (arith, trailing_le 64 c.low_word.result)
-
 pub returns : goal.returns
 returns c =
     let args = c.args in

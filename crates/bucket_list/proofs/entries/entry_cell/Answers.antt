@@ -7,7 +7,3 @@ use Rattle.bucket_list.proofs.entries.entry_cell.Goals as goal
 pub returns-then-null : goal.returns-then-null
 unfolding listed
 returns-then-null c = ap numbers_in c.cell_of.ensures ∙ rw c.if-null.true
-
-pub returns : goal.returns
-returns c =
-    rw c.if-null.false (ap numbers_in c.cell_of-2.ensures)

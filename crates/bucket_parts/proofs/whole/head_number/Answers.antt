@@ -2,21 +2,20 @@
 use borrow.Author.Tests.{eq-eqb, ne_eqb}
 use Rattle.common.specs.Outcome.{need}
 use Rattle.bucket_spec.specs.Bucket.{head_number}
-use mathlib.Core.Path.{sym, ◌∙◌}
 use Rattle.bucket_parts.proofs.whole.head_number.Goals as goal
 
-pub returns-then-m-k : goal.returns-then-m-k
+pub returns-in-Ok : goal.returns-in-Ok
 unfolding head_number need
-returns-then-m-k c = rw (sym c.varint.ensures ∙ c.in-Number.is, ne_eqb _ _ c.if-m-k.true)
+returns-in-Ok c = rw (← c.in-Ok.ensures, eq-eqb _ _ c.if-read-k.true)
 
-pub returns-in-CutShort : goal.returns-in-CutShort
-unfolding head_number
-returns-in-CutShort c = rw (sym c.varint.ensures ∙ c.in-CutShort.is)
-
-pub returns-in-IllFormed : goal.returns-in-IllFormed
-unfolding head_number
-returns-in-IllFormed c = rw (sym c.varint.ensures ∙ c.in-IllFormed.is)
-
-pub returns-else-m-k : goal.returns-else-m-k
+pub returns-in-Ok-2 : goal.returns-in-Ok-2
 unfolding head_number need
-returns-else-m-k c = rw (sym c.varint.ensures ∙ c.in-Number.is, eq-eqb _ _ c.if-m-k.false)
+returns-in-Ok-2 c = rw (← c.in-Ok.ensures, ne_eqb _ _ c.if-read-k.false)
+
+pub returns-in-Err-IllFormed : goal.returns-in-Err-IllFormed
+unfolding head_number
+returns-in-Err-IllFormed c = rw (← c.varint.ensures, c.in-Err-IllFormed.is, c.in-Err-IllFormed.field-0-is)
+
+pub returns-in-Err-CutShort : goal.returns-in-Err-CutShort
+unfolding head_number
+returns-in-Err-CutShort c = rw (← c.varint.ensures, c.in-Err-CutShort.is, c.in-Err-CutShort.field-0-is)

@@ -1,17 +1,11 @@
 -- The set bits of the word's low end. Assumes nothing.
-use borrow.Author.Tests.{leb-true}
 use lib.Count.{ones}
 use Rattle.common.proofs.LowBits.{count-le}
 use Rattle.bucket_piece.proofs.Words.{masked, count_cut}
-use mathlib.Core.Path.{sym, ap, ◌∙◌}
-use Prim.Native.Nat.{◌%◌, ◌^◌, ℕ, ◌+◌, ◌-◌}
+use mathlib.Core.Path.{ap, ◌∙◌}
+use Prim.Native.Nat.{◌%◌, ◌^◌, ℕ}
 use native.Mathlib.Omega.{arith}
-use lib.ListN.{length}
 use Rattle.bucket_piece.proofs.bits.count_few.Goals as goal
-
-pub low_word-requires : goal.low_word-requires
-low_word-requires c =
-    leb-true (c.args.at + 8) (length c.args.s.now) (sym c.has.ensures ∙ c.if-has.true)
 
 pub returns-then-has : goal.returns-then-has
 returns-then-has c =

@@ -3,10 +3,10 @@ use Rattle.bucket_spec.specs.Piece.{live}
 use native.Mathlib.Omega.{arith}
 use Rattle.bucket_piece.proofs.bits.live_rows.Goals as goal
 
-pub returns-then-mapped : goal.returns-then-mapped
+pub returns-in-Some : goal.returns-in-Some
 unfolding live
-returns-then-mapped c = (rw (c.if-mapped.true, c.count_bits.ensures.0), omega arith)
+returns-in-Some c = (rw (c.in-Some.is, c.count_bits.ensures.0), omega arith)
 
-pub returns : goal.returns
+pub returns-in-None : goal.returns-in-None
 unfolding live
-returns c = (rw c.if-mapped.false, omega arith)
+returns-in-None c = (rw c.in-None.is, omega arith)

@@ -1,15 +1,13 @@
 -- The rest of the groups decides the whole, then the rest of the indexes. Assumes nothing.
 use Prim.Native.Nat.{◌/◌, ◌%◌, ◌^◌}
-use native.Mathlib.Nat.{sub-zero}
-use Rattle.row_laws.proofs.Varints.{prod}
 use lib.Dec.{ltb}
 use borrow.Author.Tests.{lt-ltb, le-ltb}
 use Rattle.common.specs.Bytes.{low_bits}
 use Rattle.bucket_piece.proofs.Runs.{every-fails, every-goes, every-done, every-all, group-fails, group-goes}
 use Rattle.common.proofs.LowBits.{bits_small}
 use Rattle.bucket_piece.proofs.Words.{index-cut}
-use mathlib.Core.Path.{◌≡◌, sym, ap, ◌∙◌}
-use Prim.Native.Nat.{ℕ, ◌-◌, ◌*◌}
+use mathlib.Core.Path.{sym, ap, ◌∙◌}
+use Prim.Native.Nat.{ℕ, ◌*◌}
 use native.Mathlib.Omega.{arith}
 use Rattle.bucket_piece.proofs.indexes.all_below.Goals as goal
 
@@ -24,23 +22,6 @@ returns-then-past_bits-e c =
       bits_small c.args.s.now c.args.at (i * c.args.w) c.args.w,
       c.past_bits.ensures.0,
     ))))
-
-pub loop-g-init : goal.loop-g-init
-loop-g-init c = (omega arith, simp sub-zero)
-
-pub overflow_mul-g : goal.overflow_mul-g
-overflow_mul-g c =
-    omega (
-      arith,
-      prod 65536 8 {m = c.loop-g.g} {n = c.args.w}
-          (omega (arith, c.whole_groups-groups.ensures.0)) (omega arith),
-    )
-
-pub overflow_add-at : goal.overflow_add-at
-overflow_add-at c = omega (arith, c.whole_groups-groups.ensures.1 c.loop-g.g c.loop-g-test.true)
-
-pub low_word-requires : goal.low_word-requires
-low_word-requires c = c.whole_groups-groups.ensures.1 c.loop-g.g c.loop-g-test.true
 
 pub returns-then-not-eight_below : goal.returns-then-not-eight_below
 returns-then-not-eight_below c =
@@ -71,22 +52,6 @@ loop-g-preserved c = (
       (sym c.eight_below.ensures ∙ c.if-not-eight_below.false))
       ∙ c.loop-g.invariant.1,
 )
-
-pub overflow_mul-j : goal.overflow_mul-j
-overflow_mul-j c = omega (arith, c.whole_groups-groups.ensures.0)
-
-pub loop-j-init : goal.loop-j-init
-loop-j-init c =
-    let z : c.loop-g.g ≡ c.whole_groups-groups.result = omega arith in
-    (omega (arith, c.whole_groups-groups.ensures.0), rw (← z) c.loop-g.invariant.1)
-
-pub overflow_mul-j-in-loop-j : goal.overflow_mul-j-in-loop-j
-overflow_mul-j-in-loop-j c =
-    omega (arith, prod 65536 8 {m = c.loop-j.j} {n = c.args.w} (omega arith) (omega arith))
-
-pub bits_at-requires : goal.bits_at-requires
-bits_at-requires c =
-    (omega arith, omega (arith, prod 65536 8 {m = c.loop-j.j} {n = c.args.w} (omega arith) (omega arith)))
 
 pub returns-then-e-bits_at : goal.returns-then-e-bits_at
 returns-then-e-bits_at c =

@@ -1,5 +1,4 @@
 -- Under 2 entries need no bit; over 256 the count of digits is 8. Assumes nothing.
-use lib.Count.{leading_le}
 use Rattle.bucket_spec.specs.Piece.{index_width}
 use Rattle.bucket_piece.proofs.Runs.{width_few, width-many}
 use mathlib.Core.Path.{refl, sym}
@@ -11,9 +10,6 @@ returns-then-e-lt2 c = (sym (width_few _ c.if-e-lt2.true), omega arith)
 
 pub returns-then-e-gt256 : goal.returns-then-e-gt256
 returns-then-e-gt256 c = (sym (width-many _ c.if-e-gt256.true), omega arith)
-
-pub overflow_sub-result-2 : goal.overflow_sub-result-2
-overflow_sub-result-2 c = leading_le 8 _
 
 pub returns : goal.returns
 unfolding index_width

@@ -10,12 +10,6 @@ use native.Mathlib.Omega.{arith}
 use lib.ListN.{length}
 use Rattle.bucket_piece.proofs.indexes.indexes_end.Goals as goal
 
-pub overflow_mul-bytes : goal.overflow_mul-bytes
-overflow_mul-bytes c = omega (arith, prod 65536 8 {m = c.args.m} {n = c.args.w} (omega arith) (omega arith))
-
-pub overflow_add-bytes : goal.overflow_add-bytes
-overflow_add-bytes c = omega (arith, prod 65536 8 {m = c.args.m} {n = c.args.w} (omega arith) (omega arith))
-
 pub returns-then-not-has : goal.returns-then-not-has
 unfolding indexes need ceil8
 returns-then-not-has c = rw (sym c.has.ensures ∙ c.if-not-has.true)
@@ -27,10 +21,6 @@ returns-then-not-all_below c =
       sym c.has.ensures ∙ c.if-not-has.false,
       sym c.all_below.ensures ∙ c.if-not-all_below.true,
     )
-
-pub overflow_mul-m : goal.overflow_mul-m
-overflow_mul-m c =
-    omega (arith, prod 65536 8 {m = c.args.m} {n = c.args.w} (omega arith) (omega arith))
 
 pub spare_zero-requires : goal.spare_zero-requires
 unfolding ceil8
@@ -47,14 +37,6 @@ returns-then-not-spare_zero c =
       sym c.has.ensures ∙ c.if-not-has.false,
       sym c.all_below.ensures ∙ c.if-not-all_below.false,
       sym c.spare_zero.ensures ∙ c.if-not-spare_zero.true,
-    )
-
-pub overflow_add-result : goal.overflow_add-result
-overflow_add-result c =
-    omega (
-      arith,
-      leb-true (c.args.at + (c.args.m * c.args.w + 7) / 8) (length c.args.s.now)
-          (sym c.has.ensures ∙ c.if-not-has.false),
     )
 
 pub returns : goal.returns

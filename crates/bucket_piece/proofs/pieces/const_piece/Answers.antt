@@ -1,13 +1,12 @@
--- By the tag. Assumes nothing.
-use borrow.Author.Tests.{eq-eqb, ne_eqb}
+-- By the encoding. Assumes nothing.
 use Rattle.bucket_spec.specs.Piece.{const_piece}
+use Rattle.bucket_piece.proofs.Encodings.{not-const}
 use Rattle.bucket_piece.proofs.pieces.const_piece.Goals as goal
 
-pub returns-then-tag-eq1 : goal.returns-then-tag-eq1
+pub returns-in-Const : goal.returns-in-Const
 unfolding const_piece
-returns-then-tag-eq1 c =
-    rw (eq-eqb c.args.tag 1 c.if-tag-eq1.true) c.values_end.ensures
+returns-in-Const c = rw c.in-Const.is c.values_end.ensures
 
-pub returns : goal.returns
+pub returns-in_default : goal.returns-in_default
 unfolding const_piece
-returns c = rw (ne_eqb c.args.tag 1 c.if-tag-eq1.false)
+returns-in_default c = rw (not-const _ c.in_default.not-Const)

@@ -8,6 +8,8 @@ use mathlib.Core.Path.{sym, ◌∙◌}
 use native.Mathlib.Omega.{arith}
 use lib.ListN.{length}
 use Rattle.bucket_piece.proofs.pieces.nulls_piece.Goals as goal
+use Rattle.bucket_piece.proofs.pieces.nulls_piece.Goals.{else-not-nullable-via-then-not-nullable+else-not-none_set}
+use Rattle.bucket_piece.proofs.pieces.nulls_piece.Goals.{else-not-nullable-via-else-not-nullable}
 
 pub returns-then-not-mapped : goal.returns-then-not-mapped
 unfolding nulls_piece
@@ -38,24 +40,6 @@ returns-then-not-spare_zero c =
       sym c.spare_zero.ensures ∙ c.if-not-spare_zero.true,
     )
 
-pub overflow_add-result : goal.overflow_add-result
-overflow_add-result c =
-    omega (
-      arith,
-      leb-true (c.args.at + (c.args.n + 7) / 8) (length c.args.s.now)
-          (sym c.has.ensures ∙ c.if-not-has.false),
-    )
-
-pub returns-then-nullable : goal.returns-then-nullable
-unfolding nulls_piece need ceil8
-returns-then-nullable c =
-    rw (
-      c.if-not-mapped.false,
-      sym c.has.ensures ∙ c.if-not-has.false,
-      sym c.spare_zero.ensures ∙ c.if-not-spare_zero.false,
-      c.if-nullable.true,
-    )
-
 pub returns-then-not-none_set : goal.returns-then-not-none_set
 unfolding nulls_piece need ceil8
 returns-then-not-none_set c =
@@ -63,25 +47,26 @@ returns-then-not-none_set c =
       c.if-not-mapped.false,
       sym c.has.ensures ∙ c.if-not-has.false,
       sym c.spare_zero.ensures ∙ c.if-not-spare_zero.false,
-      c.if-nullable.false,
+      c.if-not-nullable.true,
       sym c.none_set.ensures ∙ c.if-not-none_set.true,
-    )
-
-pub overflow_add-result-2 : goal.overflow_add-result-2
-overflow_add-result-2 c =
-    omega (
-      arith,
-      leb-true (c.args.at + (c.args.n + 7) / 8) (length c.args.s.now)
-          (sym c.has.ensures ∙ c.if-not-has.false),
     )
 
 pub returns : goal.returns
 unfolding nulls_piece need ceil8
-returns c =
-    rw (
-      c.if-not-mapped.false,
-      sym c.has.ensures ∙ c.if-not-has.false,
-      sym c.spare_zero.ensures ∙ c.if-not-spare_zero.false,
-      c.if-nullable.false,
-      sym c.none_set.ensures ∙ c.if-not-none_set.false,
-    )
+returns c = elim c.else-not-nullable.branch [
+  | else-not-nullable-via-then-not-nullable+else-not-none_set w ↦
+      rw (
+        c.if-not-mapped.false,
+        sym c.has.ensures ∙ c.if-not-has.false,
+        sym c.spare_zero.ensures ∙ c.if-not-spare_zero.false,
+        w.if-not-nullable.true,
+        sym w.none_set.ensures ∙ w.if-not-none_set.false,
+      )
+  | else-not-nullable-via-else-not-nullable w ↦
+      rw (
+        c.if-not-mapped.false,
+        sym c.has.ensures ∙ c.if-not-has.false,
+        sym c.spare_zero.ensures ∙ c.if-not-spare_zero.false,
+        w.if-not-nullable.false,
+      )
+]

@@ -1,13 +1,12 @@
--- By the tag. Assumes nothing.
-use borrow.Author.Tests.{eq-eqb, ne_eqb}
+-- By the encoding. Assumes nothing.
 use Rattle.bucket_spec.specs.Piece.{table_piece}
+use Rattle.bucket_piece.proofs.Encodings.{not-dict}
 use Rattle.bucket_piece.proofs.pieces.table_piece.Goals as goal
 
-pub returns-then-tag-eq2 : goal.returns-then-tag-eq2
+pub returns-in-Dict : goal.returns-in-Dict
 unfolding table_piece
-returns-then-tag-eq2 c =
-    rw (eq-eqb c.args.tag 2 c.if-tag-eq2.true, ← c.varint.ensures) c.table_of.ensures
+returns-in-Dict c = rw c.in-Dict.is c.table_end.ensures
 
-pub returns : goal.returns
+pub returns-in_default : goal.returns-in_default
 unfolding table_piece
-returns c = rw (ne_eqb c.args.tag 2 c.if-tag-eq2.false)
+returns-in_default c = rw (not-dict _ c.in_default.not-Dict)

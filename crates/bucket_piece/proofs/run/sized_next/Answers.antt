@@ -1,11 +1,8 @@
 -- Room, then the least length. Assumes nothing.
-use borrow.Author.Tests.{leb-true, le-leb, lt-leb}
+use borrow.Author.Tests.{le-leb, lt-leb}
 use Rattle.common.specs.Outcome.{need}
 use Rattle.bucket_piece.specs.Stored.{sized_next}
 use mathlib.Core.Path.{sym, ◌∙◌}
-use Prim.Native.Nat.{◌+◌, ◌-◌}
-use native.Mathlib.Omega.{arith}
-use lib.ListN.{length}
 use Rattle.bucket_piece.proofs.run.sized_next.Goals as goal
 
 pub returns-then-not-has : goal.returns-then-not-has
@@ -18,14 +15,6 @@ returns-then-m-least c =
     rw (
       sym c.has.ensures ∙ c.if-not-has.false,
       lt-leb c.args.least c.args.m c.if-m-least.true,
-    )
-
-pub overflow_add-result : goal.overflow_add-result
-overflow_add-result c =
-    omega (
-      arith,
-      leb-true (c.args.next + c.args.m) (length c.args.s.now)
-          (sym c.has.ensures ∙ c.if-not-has.false),
     )
 
 pub returns : goal.returns

@@ -1,30 +1,10 @@
 -- Case by case, by how the values are stored. Assumes nothing.
-use Rattle.bucket_piece.proofs.Stored.{values-stored, no-varint, stored-fixed, wide-int8, wide-int16, wide-int32, wide-int64, wide-float32, wide-float64, wide-time}
+use Rattle.std.proofs.Common.{of_calls}
+use Rattle.row_spec.specs.declared.Storage.TheVariants as storage
+use Rattle.bucket_piece.proofs.Stored.{values-stored, stored-fixed, wide-int8, wide-int16, wide-int32, wide-int64}
+use Rattle.bucket_piece.proofs.Stored.{wide-float32, wide-float64, wide-time}
 use mathlib.Core.Path.{sym, ◌∙◌}
-use Prim.Native.Nat.{◌-◌}
-use native.Mathlib.Omega.{arith}
 use Rattle.bucket_piece.proofs.run.values_end.Goals as goal
-
-pub fixed_end-requires : goal.fixed_end-requires
-fixed_end-requires c = (omega arith, omega arith)
-
-pub fixed_end-requires-in-Int16 : goal.fixed_end-requires-in-Int16
-fixed_end-requires-in-Int16 c = (omega arith, omega arith)
-
-pub fixed_end-requires-in-Int32 : goal.fixed_end-requires-in-Int32
-fixed_end-requires-in-Int32 c = (omega arith, omega arith)
-
-pub fixed_end-requires-in-Int64 : goal.fixed_end-requires-in-Int64
-fixed_end-requires-in-Int64 c = (omega arith, omega arith)
-
-pub fixed_end-requires-in-Float32 : goal.fixed_end-requires-in-Float32
-fixed_end-requires-in-Float32 c = (omega arith, omega arith)
-
-pub fixed_end-requires-in-Float64 : goal.fixed_end-requires-in-Float64
-fixed_end-requires-in-Float64 c = (omega arith, omega arith)
-
-pub fixed_end-requires-in-Time : goal.fixed_end-requires-in-Time
-fixed_end-requires-in-Time c = (omega arith, omega arith)
 
 pub returns-in-Boolean : goal.returns-in-Boolean
 returns-in-Boolean c =
@@ -84,7 +64,8 @@ pub returns-in-Sized : goal.returns-in-Sized
 returns-in-Sized c =
     sym
     (values-stored c.args.s.now c.args.t c.args.n c.args.at ∙ rw
-    (sym c.storage_of.ensures ∙ c.in-Sized.is) (sym c.sizes_end.ensures))
+    (sym c.storage_of.ensures ∙ c.in-Sized.is)
+    (sym (c.each_end.ensures c.args.s.now (storage.Sized c.in-Sized.least) (λ p r e. search of_calls))))
 
 pub returns-in-Time : goal.returns-in-Time
 returns-in-Time c =
@@ -94,12 +75,9 @@ returns-in-Time c =
     (stored-fixed c.args.s.now _ _ (wide-time c.args.s.now) c.args.n c.args.at ∙ sym
     c.fixed_end-in-Time.ensures))
 
-pub returns-in-TimeVarint : goal.returns-in-TimeVarint
-returns-in-TimeVarint c =
-    absurd (no-varint c.args.t (sym c.storage_of.ensures ∙ c.in-TimeVarint.is))
-
 pub returns-in-TimeFixed : goal.returns-in-TimeFixed
 returns-in-TimeFixed c =
     sym
     (values-stored c.args.s.now c.args.t c.args.n c.args.at ∙ rw
-    (sym c.storage_of.ensures ∙ c.in-TimeFixed.is) (sym c.times_end.ensures))
+    (sym c.storage_of.ensures ∙ c.in-TimeFixed.is)
+    (sym (c.each_end-in-TimeFixed.ensures c.args.s.now storage.TimeFixed (λ p r e. search of_calls))))

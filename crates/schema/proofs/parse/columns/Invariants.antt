@@ -1,13 +1,14 @@
 -- The columns read so far stand first in the array, and the rest of the columns gives the whole. Assumes nothing.
 use mathlib.Core.List.{[]}
-use Prim.Native.Nat.{◌-◌, ◌≤◌}
+use Prim.Native.Nat.{◌-◌}
 use lib.ListN.{length, take, drop}
 use Rattle.row_spec.specs.Schema.{columns_from, blanks}
 use mathlib.Core.Path.{◌≡◌}
 use Rattle.schema.proofs.parse.columns.Given as goal
 
 abbrev pub invariant-loop-i : goal.invariant-loop-i
-invariant-loop-i l = (l.i ≤ l.n) × (length l.out.columns ≡ 64) × (drop l.i l.out.columns ≡ drop l.i blanks) × (columns_from l.s (l.n - l.i) l.at (take l.i l.out.columns) ≡ columns_from l.s l.n l.from [])
-
-abbrev pub decreases-loop-i : goal.decreases-loop-i
-decreases-loop-i l = l.n - l.i
+invariant-loop-i l = record {
+  long : length l.out.columns ≡ 64;
+  blank : drop l.i l.out.columns ≡ drop l.i blanks;
+  rest : columns_from l.s (l.n - l.i) l.at (take l.i l.out.columns) ≡ columns_from l.s l.n l.from [];
+}

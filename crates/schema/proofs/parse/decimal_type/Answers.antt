@@ -1,24 +1,34 @@
 -- By what the precision was read as, then its bounds; the scale is a number up to the precision. Assumes nothing.
+use mathlib.Core.Path.{sym, ◌∙◌}
 use borrow.Author.Tests.{le-leb, lt-leb}
 use Rattle.row_spec.specs.Schema.{decimal}
+use Rattle.row_laws.proofs.Varints.{number-some, number-none}
 use Rattle.schema.proofs.parse.decimal_type.Goals as goal
 
-pub returns-then-p-lt1 : goal.returns-then-p-lt1
+pub returns-in_err-n : goal.returns-in_err-n
 unfolding decimal
-returns-then-p-lt1 c = rw (← c.varint.ensures, c.in-Number.is, lt-leb 1 _ c.if-p-lt1.true)
+returns-in_err-n c = rw (c.from_residual.ensures, ← c.varint.ensures) (number-none _ _ _ c.in_err-n.ensures.value)
 
-pub returns-then-p-gt38 : goal.returns-then-p-gt38
+pub returns-then-precision-lt1 : goal.returns-then-precision-lt1
 unfolding decimal
-returns-then-p-gt38 c = rw (← c.varint.ensures, c.in-Number.is, le-leb 1 _ c.if-p-lt1.false, lt-leb _ 38 c.if-p-gt38.true)
+returns-then-precision-lt1 c =
+    rw (sym c.varint.ensures ∙ number-some _ _ c.in_ok-n.ensures.value, lt-leb 1 _ c.if-precision-lt1.true)
 
-pub returns-in-CutShort : goal.returns-in-CutShort
+pub returns-then-precision-gt38 : goal.returns-then-precision-gt38
 unfolding decimal
-returns-in-CutShort c = rw (← c.varint.ensures, c.in-CutShort.is)
+returns-then-precision-gt38 c =
+    rw (
+      sym c.varint.ensures ∙ number-some _ _ c.in_ok-n.ensures.value,
+      le-leb 1 _ c.if-precision-lt1.false,
+      lt-leb _ 38 c.if-precision-gt38.true,
+    )
 
-pub returns-in-IllFormed : goal.returns-in-IllFormed
+pub returns : goal.returns
 unfolding decimal
-returns-in-IllFormed c = rw (← c.varint.ensures, c.in-IllFormed.is)
-
-pub returns-else-p-gt38 : goal.returns-else-p-gt38
-unfolding decimal
-returns-else-p-gt38 c = rw (← c.varint.ensures, c.in-Number.is, le-leb 1 _ c.if-p-lt1.false, le-leb _ 38 c.if-p-gt38.false, ← c.varint-in-Number.ensures) c.numbered_type.ensures
+returns c =
+    rw (
+      sym c.varint.ensures ∙ number-some _ _ c.in_ok-n.ensures.value,
+      le-leb 1 _ c.if-precision-lt1.false,
+      le-leb _ 38 c.if-precision-gt38.false,
+    )
+    c.numbered_type.ensures

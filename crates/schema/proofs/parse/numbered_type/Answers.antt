@@ -1,20 +1,25 @@
 -- By what the number was read as, then its bound. Assumes nothing.
+use mathlib.Core.Path.{sym, ◌∙◌}
 use borrow.Author.Tests.{le-leb, lt-leb}
 use Rattle.row_spec.specs.Schema.{numbered}
+use Rattle.row_laws.proofs.Varints.{number-some, number-none}
 use Rattle.schema.proofs.parse.numbered_type.Goals as goal
 
-pub returns-in-CutShort : goal.returns-in-CutShort
+pub returns-in_err-n : goal.returns-in_err-n
 unfolding numbered
-returns-in-CutShort c = rw c.in-CutShort.is
+returns-in_err-n c = rw (c.from_residual.ensures, ← c.varint.ensures) (number-none _ _ _ c.in_err-n.ensures.value)
 
-pub returns-in-IllFormed : goal.returns-in-IllFormed
+pub returns-then-most-n : goal.returns-then-most-n
 unfolding numbered
-returns-in-IllFormed c = rw c.in-IllFormed.is
+returns-then-most-n c =
+    rw (sym c.varint.ensures ∙ number-some _ _ c.in_ok-n.ensures.value, lt-leb _ _ c.if-most-n.true)
 
-pub returns-then-n-hi : goal.returns-then-n-hi
+pub returns : goal.returns
 unfolding numbered
-returns-then-n-hi c = rw (c.in-Number.is, le-leb _ _ c.if-n-hi.true, c.with_number.ensures)
-
-pub returns-else-n-hi : goal.returns-else-n-hi
-unfolding numbered
-returns-else-n-hi c = rw (c.in-Number.is, lt-leb _ _ c.if-n-hi.false)
+returns c =
+    rw (
+      sym c.varint.ensures
+          ∙ number-some _ _ c.in_ok-n.ensures.value,
+      le-leb _ _ c.if-most-n.false,
+      c.with_number.ensures,
+    )

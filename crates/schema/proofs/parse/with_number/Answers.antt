@@ -1,4 +1,5 @@
 -- Case by case. Assumes nothing.
+use Rattle.schema.proofs.Numbers.{plain-number}
 use Rattle.schema.proofs.parse.with_number.Goals as goal
 
 pub returns-in-Char : goal.returns-in-Char
@@ -21,3 +22,17 @@ returns-in-Timestamp c = rw c.in-Timestamp.is
 
 pub returns-in-Decimal : goal.returns-in-Decimal
 returns-in-Decimal c = rw c.in-Decimal.is
+
+pub returns-in_default : goal.returns-in_default
+returns-in_default c =
+    let h = c.in_default in
+    plain-number c.args.t c.args.n
+    (record {
+      not-Char = h.not-Char;
+      not-Varchar = h.not-Varchar;
+      not-Binary = h.not-Binary;
+      not-Varbinary = h.not-Varbinary;
+      not-Time = h.not-Time;
+      not-Timestamp = h.not-Timestamp;
+      not-Decimal = h.not-Decimal;
+    })
