@@ -1,20 +1,20 @@
 -- The bytes of one container: whether a number is among them, and how many are below it, byte by byte.
 -- Assumes nothing.
+use Rattle.common.proofs.Lists.{run-cons}
 use mathlib.Core.Path.{◌≡◌, refl, sym, ◌∙◌}
-use mathlib.Core.Bool.{Bool, true, false, ◌||◌, cond}
+use mathlib.Core.Bool.{Bool, true, false, ◌||◌}
 use mathlib.Core.List.{List, [], ◌∷◌}
 use Prim.Native.Nat.{ℕ, ◌+◌, ◌-◌, ◌*◌, ◌/◌, ◌%◌, ◌^◌, ◌≤◌, ◌<◌}
 use native.Mathlib.Omega.{arith}
 use borrow.Author.Tests.{lt-ltb, le-ltb}
 use Rattle.std.proofs.lemmas.Bool.Decides.{nat_tests}
-use Rattle.std.proofs.lemmas.List.Recursion.{is_count_by}
 use lib.ListN.{length, get_or, take, drop, length-drop}
 use lib.Seq.{length-take-le}
 use lib.Dec.{ltb, eqb, leb}
 use mathlib.Core.Logic.{⊎_elim}
 use Rattle.common.specs.Outcome.{pick}
 use Rattle.common.specs.Lists.{keep, mem, rising}
-use Rattle.std.specs.List.{list_any, count_by}
+use Rattle.std.specs.List.{list_any}
 use Rattle.bitmap_spec.specs.Bits.{bit}
 use Rattle.bitmap_spec.specs.Judge.{size_of, dense, container, container_ok}
 use Rattle.bitmap_spec.specs.Ask.{below}
@@ -36,14 +36,21 @@ mem-any j (x ∷ l) = rw (mem-any j l, eqb-swap x j) (either-is (eqb j x) (mem j
     either-is true b = refl
     either-is false b = refl
 
--- the library's count of the elements below j
-pub below-count : (j : ℕ) (l : List ℕ) → count_by (λ x. ltb x j) l ≡ below j l
-unfolding below keep
-below-count j l = sym (is_count_by (λ xs. length (keep (λ y. ltb y j) xs)) (λ y. ltb y j) refl (λ x xs. one_more (ltb x j) x _) l)
-  where
-    one_more : (t : Bool) (x : ℕ) (xs : List ℕ) → length (pick t (x ∷ xs) xs) ≡ cond t (1 + length xs) (length xs)
-    one_more true x xs = omega arith
-    one_more false x xs = refl
+-- ---- what is left of a run of n bytes from at on
+module _ (s : List ℕ) (at n i j : ℕ) where
+  pub below_on : i < n → at + n ≤ length s → get_or s (at + i) 0 < j → below j (take (n - i) (drop (at + i) s)) ≡ 1 + below j (take (n - (i + 1)) (drop (at + (i + 1)) s))
+  unfolding below keep
+  below_on h g e = rw (run-cons s at n i h g, lt-ltb (get_or s (at + i) 0) j e) (omega arith)
+
+  pub below-off : i < n → at + n ≤ length s → j ≤ get_or s (at + i) 0 → below j (take (n - i) (drop (at + i) s)) ≡ below j (take (n - (i + 1)) (drop (at + (i + 1)) s))
+  unfolding below keep
+  below-off h g e = rw (run-cons s at n i h g, le-ltb (get_or s (at + i) 0) j e)
+
+  pub below_end : n ≤ i → below j (take (n - i) (drop (at + i) s)) ≡ 0
+  unfolding below keep
+  below_end h =
+      let e : n - i ≡ 0 = omega arith in
+      rw e
 
 -- ---- one container
 module _ (s : List ℕ) (at d : ℕ) where

@@ -67,8 +67,12 @@ fn column<W: Write>(to: &mut W, bytes: &[u8], i: u32) -> io::Result<()> {
 fn number<W: Write>(to: &mut W, bytes: &[u8]) -> io::Result<()> {
     match number_read::read(bytes) {
         Ok(v) => {
-            let form = if v.shortest { "shortest" } else { "padded" };
-            writeln!(to, ": value {}, bytes {}, {form}", v.number, v.next)
+            let form = if v.shortest {
+                ", shortest\n"
+            } else {
+                ", padded\n"
+            };
+            write!(to, ": value {}, bytes {}{form}", v.number, v.next)
         }
         Err(ReadFault::CutShort) => writeln!(to, ": cut short"),
         Err(ReadFault::IllFormed) => writeln!(to, ": ill-formed"),

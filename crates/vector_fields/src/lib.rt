@@ -8,9 +8,9 @@ use row_spec::{Field, PageCounts};
 use std::io;
 use std::io::Write;
 
-// Prints a refusal's number.
+// Prints a refusal's number. Each piece of a text and each number is a write of its own, so the words stand in one piece.
 pub fn print_refused<W: Write>(to: &mut W, refusal: Refusal) -> io::Result<()> {
-    write!(to, ": {refusal}")
+    write!(to, ": refused {}", u32::from(refusal))
 }
 
 // Prints a field's kind, whether its whole number is the one wanted, its bits, nanoseconds, start and length.
@@ -18,13 +18,13 @@ fn print_field<W: Write>(to: &mut W, f: Field, whole: &[u8]) -> io::Result<()> {
     let v = values::show(f);
     let wanted = numbers::signed(vector_text::signed(whole), 9223372036854775808);
     let found = if v.whole == wanted {
-        "as wanted"
+        " as wanted "
     } else {
-        "NOT AS WANTED"
+        " NOT AS WANTED "
     };
     write!(
         to,
-        ": kind {} {found} {} {} {} {}",
+        ": kind {}{found}{} {} {} {}",
         v.kind, v.bits, v.nanos, v.start, v.length
     )
 }

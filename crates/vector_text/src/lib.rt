@@ -45,12 +45,29 @@ pub fn show_lines<R: Read, W: Write, F: FnMut(&mut W, &[u8]) -> io::Result<()>>(
     to.flush()
 }
 
-// Word k, from 0 on; without it, an empty one. Spaces, commas and colons stand between words.
+// Whether c stands between words.
+fn is_gap(c: u8) -> bool {
+    c == b' ' || c == b',' || c == b':'
+}
+
+// Where the gaps, or the word, at the line's start end.
+fn run_end(line: &[u8], gaps: bool) -> usize
+    ensures { result ≤ length line.now }
+{
+    line.iter()
+        .position(|c| is_gap(*c) != gaps)
+        .unwrap_or(line.len())
+}
+
+// Word k, from 0 on; without it, an empty one. Spaces, commas and colons stand between words: a run of them is passed as
+// one, since to split at each of them takes twice as long.
 pub fn word<'a>(line: &'a [u8], k: usize) -> &'a [u8] {
-    line.split(|c| *c == b' ' || *c == b',' || *c == b':')
-        .filter(|w| !w.is_empty())
-        .nth(k)
-        .unwrap_or(&[])
+    let mut rest = &line[run_end(line, true)..];
+    for _ in 0..k {
+        let gaps = &rest[run_end(rest, false)..];
+        rest = &gaps[run_end(gaps, true)..];
+    }
+    &rest[..run_end(rest, false)]
 }
 
 // Where the first c lies, or the line's end.
